@@ -1,0 +1,121 @@
+-- A product held against a limit. Assumes nothing.
+use mathlib.Core.Path.{_≡_, refl, sym, ap, ap₂, _∙_}
+use mathlib.Core.Bool.{Bool, true, false, _||_}
+use mathlib.Core.List.{List, [], _∷_, _++_}
+use Prim.Native.Nat.{ℕ, zero, suc, _+_, _-_, _*_, _/_, _%_, _^_, _<_, _≤_}
+use native.Mathlib.Nat.{le-div-iff-mul-le, lt-of-not-le, add-mod-right, le-mul-of-pos-right, not-suc-le-zero, le-of-suc-le-suc}
+use native.Mathlib.Numerals.{add-one}
+use native.Mathlib.Omega.{arith}
+use lib.Dec.{leb, ltb, eqb}
+use lib.Arith.{lt-of-le-ne}
+use lib.ListN.{length, take, drop, getD, drop-of-length-le}
+use lib.Seq.{take-suc, drop-cons}
+use borrow.Author.Tests.{leb-true, leb-false, le-leb, lt-leb, lt-ltb, le-ltb, eq-eqb, ne-eqb, eqb-true, eqb-false, ltb-true, ltb-false}
+use Rattle.arithmetic.specs.Rolls.{product}
+use Rattle.arithmetic.specs.Products.{against, grown, hasZero}
+use Rattle.arithmetic.specs.declared.bounds.Product.{Product}
+use Rattle.arithmetic.specs.declared.bounds.Product.the-variants.{Below, Whole, Above}
+
+-- ---- a quotient tells whether a product passes a limit
+
+pub leb-div : (p b limit : ℕ) → 0 < b → leb p (limit / b) ≡ leb (p * b) limit
+leb-div p b limit h = go (leb p (limit / b)) refl
+  where
+    go : (t : Bool) → leb p (limit / b) ≡ t → t ≡ leb (p * b) limit
+    go true e = sym (le-leb _ _ ((le-div-iff-mul-le h) .0 (leb-true _ _ e)))
+    go false e = sym (lt-leb _ _ (lt-of-not-le (λ k. let l : p ≤ limit / b = (le-div-iff-mul-le h) .1 k in omega (arith, leb-false p (limit / b) e))))
+
+-- ---- what is held against 2^64
+
+pub against-below : (n : ℕ) → n < 2 ^ 64 → against n ≡ Below n
+unfolding against
+against-below n h = rw (lt-ltb n (2 ^ 64) h, against)
+
+pub against-whole : (n : ℕ) → n ≡ 2 ^ 64 → against n ≡ Whole
+unfolding against
+against-whole n e = rw (le-ltb n (2 ^ 64) (omega arith), eq-eqb n (2 ^ 64) e, against)
+
+pub against-above : (n : ℕ) → 2 ^ 64 < n → against n ≡ Above
+unfolding against
+against-above n h = rw (le-ltb n (2 ^ 64) (omega arith), ne-eqb n (2 ^ 64) (λ e. omega arith), against)
+
+-- ---- p * b by two tests: whether it is at most 2^64 - 1, and whether (p - 1) * b is at most that less b - 1
+
+module _ (p b : ℕ) where
+  pub is-below : leb (p * b) (2 ^ 64 - 1) ≡ true → p * b < 2 ^ 64
+  is-below e = omega (arith, leb-true (p * b) (2 ^ 64 - 1) e)
+
+  passes : leb (p * b) (2 ^ 64 - 1) ≡ false → 2 ^ 64 ≤ p * b
+  passes e = omega (arith, leb-false (p * b) (2 ^ 64 - 1) e)
+
+  pub some : leb (p * b) (2 ^ 64 - 1) ≡ false → 0 < p
+  some e = go p (passes e)
+    where
+      go : (p : ℕ) → 2 ^ 64 ≤ p * b → 0 < p
+      go zero k = omega arith
+      go (suc p) k = omega arith
+
+  module _ (h : 0 < b) (f : b < 2 ^ 64) (k : leb (p * b) (2 ^ 64 - 1) ≡ false) where
+    one-less : (p - 1) * b + b ≡ p * b
+    one-less = let e : p - 1 + 1 ≡ p = omega (arith, some k) in omega (arith, ap (λ (x : ℕ). x * b) e)
+
+    pub is-whole : leb ((p - 1) * b) (2 ^ 64 - 1 - (b - 1)) ≡ true → p * b ≡ 2 ^ 64
+    is-whole l = omega (arith, passes k, one-less, leb-true ((p - 1) * b) (2 ^ 64 - 1 - (b - 1)) l)
+
+    pub is-above : leb ((p - 1) * b) (2 ^ 64 - 1 - (b - 1)) ≡ false → 2 ^ 64 < p * b
+    is-above l = omega (arith, passes k, one-less, leb-false ((p - 1) * b) (2 ^ 64 - 1 - (b - 1)) l)
+
+-- ---- one bound more
+
+pub grown-against : (n b : ℕ) → 0 < b → grown (against n) b ≡ against (n * b)
+grown-against n b h = go (ltb n (2 ^ 64)) refl (eqb n (2 ^ 64)) refl
+  where
+    go : (t : Bool) → ltb n (2 ^ 64) ≡ t → (u : Bool) → eqb n (2 ^ 64) ≡ u → grown (against n) b ≡ against (n * b)
+    go true e u f = ap (λ (x : Product). grown x b) (against-below n (ltb-true n (2 ^ 64) e))
+    go false e true f =
+        let w : n ≡ 2 ^ 64 = eqb-true n (2 ^ 64) f in
+        ap (λ (x : Product). grown x b) (against-whole n w) ∙ ap (λ (m : ℕ). against (m * b)) (sym w)
+    go false e false f =
+        let l : 2 ^ 64 < n = lt-of-le-ne (ltb-false n (2 ^ 64) e) (λ w. eqb-false n (2 ^ 64) f (sym w)) in
+        ap (λ (x : Product). grown x b) (against-above n l) ∙ sym (against-above (n * b) (omega (arith, le-mul-of-pos-right n h)))
+
+pub product-snoc : (bs : List ℕ) (b : ℕ) → product (bs ++ b ∷ []) ≡ product bs * b
+unfolding product
+product-snoc [] b = omega arith
+product-snoc (c ∷ bs) b = omega (arith, ap (λ (x : ℕ). c * x) (product-snoc bs b))
+
+pub product-more : (bs : List ℕ) (i : ℕ) → i < length bs → product (take (i + 1) bs) ≡ product (take i bs) * getD bs i 0
+product-more bs i h = rw (add-one i, take-suc bs i 0 h) (product-snoc (take i bs) (getD bs i 0))
+
+-- ---- no bound is 0
+
+pos-of-ne : (n : ℕ) → (n ≡ 0 → ⊥) → 0 < n
+pos-of-ne zero h = absurd (h refl)
+pos-of-ne (suc n) h = omega arith
+
+or-left : (a b : Bool) → (a || b) ≡ false → a ≡ false
+or-left true b e = e
+or-left false b e = refl
+
+or-right : (a b : Bool) → (a || b) ≡ false → b ≡ false
+or-right true b e = cc
+or-right false b e = e
+
+pub zero-nowhere : (bs : List ℕ) (i : ℕ) → hasZero bs ≡ false → i < length bs → 0 < getD bs i 0
+unfolding hasZero
+zero-nowhere [] i e h = absurd (not-suc-le-zero h)
+zero-nowhere (b ∷ bs) zero e h = pos-of-ne b (λ z. eqb-false b 0 (or-left (eqb b 0) (hasZero bs) e) z)
+zero-nowhere (b ∷ bs) (suc i) e h = zero-nowhere bs i (or-right (eqb b 0) (hasZero bs) e) (le-of-suc-le-suc h)
+
+module _ (bs : List ℕ) (i : ℕ) (h : i < length bs) where
+  pub zero-here : getD bs i 0 ≡ 0 → hasZero (drop i bs) ≡ true
+  unfolding hasZero
+  zero-here e = rw (drop-cons bs i 0 h, e)
+
+  pub zero-later : (getD bs i 0 ≡ 0 → ⊥) → hasZero (drop (i + 1) bs) ≡ hasZero (drop i bs)
+  unfolding hasZero
+  zero-later n = rw (add-one i, drop-cons bs i 0 h, ne-eqb (getD bs i 0) 0 n)
+
+pub zero-none : (bs : List ℕ) (i : ℕ) → length bs ≤ i → hasZero (drop i bs) ≡ false
+unfolding hasZero
+zero-none bs i h = rw (drop-of-length-le bs h)

@@ -1,0 +1,63 @@
+-- Long division in base 2, one bit a turn. Assumes nothing.
+use mathlib.Core.Path.{_≡_, refl, sym, ap, _∙_}
+use Prim.Native.Nat.{ℕ, zero, suc, _+_, _-_, _*_, _/_, _%_, _^_, _<_, _≤_}
+use native.Mathlib.Nat.{pow-suc, pow-zero, mod-one, mul-le-mul-left, not-suc-le-zero}
+use native.Mathlib.Omega.{arith}
+use lib.Arith.{digits-div, digits-mod}
+use lib.Pow.{mod-pow-add, pow-pos}
+
+-- with so many bits of low left: those above them, divided by b, are the quotient and the remainder so far
+abbrev pub Inv : ℕ → ℕ → ℕ → ℕ → ℕ → ℕ → Type 0
+Inv high low b quotient remainder left =
+    (remainder < b) × (left ≤ 64) × ((quotient + 1) * 2 ^ left ≤ 2 ^ 64)
+    × (high * 2 ^ 64 + low ≡ (quotient * b + remainder) * 2 ^ left + low % 2 ^ left)
+
+double : (left : ℕ) → 0 < left → 2 ^ left ≡ 2 ^ (left - 1) * 2
+double zero h = absurd (let z : ⊥ = omega arith in z)
+double (suc k) h = pow-suc 2 k ∙ ap (λ (n : ℕ). 2 ^ n * 2) (omega arith)
+
+-- the bit above the others that are left
+next-bit : (low left : ℕ) → 0 < left → low % 2 ^ left ≡ low / 2 ^ (left - 1) % 2 * 2 ^ (left - 1) + low % 2 ^ (left - 1)
+next-bit low left h = ap (λ (n : ℕ). low % 2 ^ n) (omega arith) ∙ mod-pow-add low 1 (left - 1)
+
+-- the numbers of a turn: p for 2^(left - 1), m for the bits that are left after it
+module _ (n q b r p bit m : ℕ) (e : n ≡ (q * b + r) * (p * 2) + (bit * p + m)) where
+  below : n ≡ (q * 2 * b + (r * 2 + bit)) * p + m
+  below = omega arith
+
+  reached : (s : ℕ) → s + b ≡ r * 2 + bit → n ≡ ((q * 2 + 1) * b + s) * p + m
+  reached s f = omega (arith, ap (λ (x : ℕ). x * p) f)
+
+module _ (high low b q r left : ℕ) (v : Inv high low b q r left) (h : 0 < left) where
+  turned : high * 2 ^ 64 + low ≡ (q * b + r) * (2 ^ (left - 1) * 2) + (low / 2 ^ (left - 1) % 2 * 2 ^ (left - 1) + low % 2 ^ (left - 1))
+  turned = rw (next-bit low left h, double left h) at (v .3)
+
+  -- the quotient has room for one bit more
+  pub room : q * 2 + 1 < 2 ^ 64
+  room = omega (arith, v .2, rw (double left h) at (v .2), mul-le-mul-left (q + 1) (pow-pos (left - 1)))
+
+  pub turn-below : r + low / 2 ^ (left - 1) % 2 < b - r → Inv high low b (q * 2) (r * 2 + low / 2 ^ (left - 1) % 2) (left - 1)
+  turn-below k =
+      (omega (arith, k), omega (arith, v .1), omega (arith, rw (double left h) at (v .2)),
+      below (high * 2 ^ 64 + low) q b r (2 ^ (left - 1)) (low / 2 ^ (left - 1) % 2) (low % 2 ^ (left - 1)) turned)
+
+  pub turn-reached : b - r ≤ r + low / 2 ^ (left - 1) % 2
+      → Inv high low b (q * 2 + 1) (r + low / 2 ^ (left - 1) % 2 - (b - r)) (left - 1)
+  turn-reached k =
+      (omega (arith, k), omega (arith, v .1), omega (arith, rw (double left h) at (v .2)),
+      reached (high * 2 ^ 64 + low) q b r (2 ^ (left - 1)) (low / 2 ^ (left - 1) % 2) (low % 2 ^ (left - 1)) turned
+      (r + low / 2 ^ (left - 1) % 2 - (b - r)) (omega (arith, k, v .0)))
+
+-- a remainder that stays below b when it is doubled stays a word
+pub doubled : (r bit b : ℕ) → r + bit < b - r → b < 2 ^ 64 → (r * 2 < 2 ^ 64) × (r * 2 + bit < 2 ^ 64)
+doubled r bit b k f = (omega arith, omega arith)
+
+pub begun : (high low b : ℕ) → high < b → low < 2 ^ 64 → Inv high low b 0 high 64
+begun high low b h f = (h, omega arith, omega arith, omega arith)
+
+pub done : (high low b q r left : ℕ) → left ≤ 0 → Inv high low b q r left
+    → (q ≡ (high * 2 ^ 64 + low) / b) × (r ≡ (high * 2 ^ 64 + low) % b)
+done high low b q r zero z (l, k, m, e) =
+    let f : high * 2 ^ 64 + low ≡ q * b + r = e ∙ omega (arith, mod-one low) in
+    (sym (ap (λ (n : ℕ). n / b) f ∙ digits-div q l), sym (ap (λ (n : ℕ). n % b) f ∙ digits-mod q l))
+done high low b q r (suc left) z v = absurd (not-suc-le-zero z)

@@ -1,0 +1,89 @@
+// What a batch's bounds come to: their product, whether it passes a limit, and the threshold t.
+ghost use mathlib.Core.Path.{_≡_};
+ghost use mathlib.Core.Bool.{false};
+ghost use Prim.Native.Nat.{_*_, _<_};
+ghost use lib.Dec.{leb};
+ghost use Rattle.arithmetic.specs.Rolls.{product, threshold};
+ghost use Rattle.arithmetic.specs.Products.{against, hasZero, grown};
+
+// A product held against 2^64, which no 64-bit number holds.
+pub enum Product {
+    Below(u64),
+    Whole,
+    Above,
+}
+
+// Whether p * b is at most the limit.
+pub fn within(p: u64, b: u64, limit: u64) -> bool
+    requires { ⌜ 0 < b ⌝ }
+    ensures { λ r. ⌜ r ≡ leb (p * b) limit ⌝ }
+{
+    p <= limit / b
+}
+
+// p * b, held against 2^64. It is 2^64 where p * b - 1, which is (p - 1) * b + (b - 1), is the largest word.
+pub fn product_of_two(p: u64, b: u64) -> Product
+    requires { ⌜ 0 < b ⌝ }
+    ensures { λ r. ⌜ r ≡ against (p * b) ⌝ }
+{
+    if within(p, b, u64::MAX) {
+        return Product::Below(p * b);
+    }
+    if within(p - 1, b, u64::MAX - (b - 1)) {
+        return Product::Whole;
+    }
+    Product::Above
+}
+
+// The product so far, with one bound more.
+pub fn grow(held: Product, b: u64) -> Product
+    requires { ⌜ 0 < b ⌝ }
+    ensures { λ r. ⌜ r ≡ grown held b ⌝ }
+{
+    match held {
+        Product::Below(p) => product_of_two(p, b),
+        Product::Whole => {
+            if b == 1 {
+                return Product::Whole;
+            }
+            Product::Above
+        }
+        Product::Above => Product::Above,
+    }
+}
+
+// The product of the bounds, held against 2^64.
+pub fn product_of(bounds: &[u64]) -> Product
+    requires { ⌜ hasZero (now bounds) ≡ false ⌝ }
+    ensures { λ r. ⌜ r ≡ against (product (now (bounds .entry))) ⌝ }
+{
+    let mut held = Product::Below(1);
+    let mut i: usize = 0;
+    while i < bounds.len() {
+        held = grow(held, bounds[i]);
+        i += 1;
+    }
+    held
+}
+
+// t, the remainder of 2^64 by b: zero less b, taken with wrap at 64 bits, mod b.
+pub fn threshold_of(b: u64) -> u64
+    requires { ⌜ 0 < b ⌝ }
+    ensures { λ r. ⌜ r ≡ threshold 64 b ⌝ }
+{
+    std::num::wrapping_sub_u64(0, b) % b
+}
+
+// Whether some bound is 0.
+pub fn has_zero(bounds: &[u64]) -> bool
+    ensures { λ r. ⌜ r ≡ hasZero (now (bounds .entry)) ⌝ }
+{
+    let mut i: usize = 0;
+    while i < bounds.len() {
+        if bounds[i] == 0 {
+            return true;
+        }
+        i += 1;
+    }
+    false
+}

@@ -1,0 +1,5 @@
+pub mod Run
+pub mod Cut
+pub mod Outcome
+pub mod Operations
+pub mod Inner

@@ -1,0 +1,42 @@
+// Cutting a list of bounds into batches.
+use arithmetic::bounds::within;
+
+ghost use mathlib.Core.Path.{_≡_};
+ghost use mathlib.Core.Bool.{false};
+ghost use Prim.Native.Nat.{_<_};
+ghost use lib.ListN.{length};
+ghost use Rattle.arithmetic.specs.Products.{hasZero};
+ghost use Rattle.rolls.specs.Inner.{cutAt};
+
+// The most bounds of one batch.
+pub const MAX_BATCH: usize = 16;
+
+// A further bound joins a batch while their product is at most this.
+pub const LIMIT: u64 = 72057594037927936;
+
+pub struct Cut {
+    pub end: usize,
+    pub product: u64,
+}
+
+// The batch that begins at a place of the list: it takes the next bound whatever it is, and further bounds in order while the
+// batch has fewer than 16 and its product with the new bound is at most 2^56.
+pub fn cut_at(bounds: &[u64], at: usize) -> Cut
+    requires { ⌜ (at < length (now bounds)) × (hasZero (now bounds) ≡ false) ⌝ }
+    ensures { λ r. ⌜ r ≡ cutAt (now (bounds .entry)) at ⌝ }
+{
+    let mut product = bounds[at];
+    let mut end = at + 1;
+    while end < bounds.len() {
+        let b = bounds[end];
+        if end - at >= MAX_BATCH {
+            break;
+        }
+        if !within(product, b, LIMIT) {
+            break;
+        }
+        product = product * b;
+        end += 1;
+    }
+    Cut { end, product }
+}

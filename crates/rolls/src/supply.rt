@@ -1,0 +1,50 @@
+// Whether the words suffice for a list of bounds. It is known before anything is written: a refusal leaves every lent list as it was.
+use arithmetic::bounds::threshold_of;
+
+use super::cut::cut_at;
+use super::search::find_word;
+use super::search::Search;
+
+ghost use mathlib.Core.Path.{_≡_};
+ghost use mathlib.Core.Bool.{false};
+ghost use Prim.Native.Nat.{_≤_, _^_};
+ghost use lib.ListN.{length};
+ghost use Rattle.arithmetic.specs.Products.{hasZero};
+ghost use Rattle.rolls.specs.Run.{run};
+ghost use Rattle.rolls.specs.Cut.{cut};
+ghost use Rattle.rolls.specs.Inner.{supplied};
+
+pub enum Supply {
+    Enough { next: usize, rejected: usize },
+    Short { batch: usize },
+}
+
+// Takes a word for each batch of the bounds, and keeps only where the last one stood and how many were rejected.
+pub fn supply_list(words: &[u64], start: usize, bounds: &[u64]) -> Supply
+    requires { ⌜ (start ≤ length (now words)) × (hasZero (now bounds) ≡ false) ⌝ }
+    ensures { λ r. ⌜ r ≡ supplied start (run 64 (cut (2 ^ 56) (now (bounds .entry))) (now (words .entry)) start) ⌝ }
+{
+    let mut next = start;
+    let mut rejected: usize = 0;
+    let mut batch: usize = 0;
+    let mut at: usize = 0;
+    while at < bounds.len() {
+        let part = cut_at(bounds, at);
+        match find_word(words, next, part.product, threshold_of(part.product)) {
+            Search::Hit {
+                word: _,
+                place,
+                rejected: more,
+            } => {
+                next = place + 1;
+                rejected += more;
+                batch += 1;
+                at = part.end;
+            }
+            Search::Missing => {
+                return Supply::Short { batch };
+            }
+        }
+    }
+    Supply::Enough { next, rejected }
+}
