@@ -2,8 +2,8 @@
 use mathlib.Core.Path.{_≡_, refl, sym, ap, ap₂, _∙_}
 use mathlib.Core.Bool.{Bool, true, false, _||_}
 use mathlib.Core.List.{List, [], _∷_, _++_}
-use Prim.Native.Nat.{ℕ, zero, suc, _+_, _-_, _*_, _/_, _%_, _^_, _<_, _≤_}
-use native.Mathlib.Nat.{le-div-iff-mul-le, lt-of-not-le, add-mod-right, le-mul-of-pos-right, not-suc-le-zero, le-of-suc-le-suc}
+use Prim.Native.Nat.{ℕ, zero, suc, suc-le-suc, zero-le, _+_, _-_, _*_, _/_, _%_, _^_, _<_, _≤_}
+use native.Mathlib.Nat.{le-div-iff-mul-le, lt-of-not-le, mul-pos, le-mul-of-pos-right, not-suc-le-zero, le-of-suc-le-suc}
 use native.Mathlib.Numerals.{add-one}
 use native.Mathlib.Omega.{arith}
 use lib.Dec.{leb, ltb, eqb}
@@ -38,6 +38,43 @@ against-whole n e = rw (le-ltb n (2 ^ 64) (omega arith), eq-eqb n (2 ^ 64) e, ag
 pub against-above : (n : ℕ) → 2 ^ 64 < n → against n ≡ Above
 unfolding against
 against-above n h = rw (le-ltb n (2 ^ 64) (omega arith), ne-eqb n (2 ^ 64) (λ e. omega arith), against)
+
+-- and what it says of the number
+
+record Held (n : ℕ) (x : Product) : Type 0 where
+  below : (b : ℕ) → x ≡ Below b → (b ≡ n) × (n < 2 ^ 64)
+  whole : x ≡ Whole → n ≡ 2 ^ 64
+  above : x ≡ Above → 2 ^ 64 < n
+
+clash : {A : Type 0} → _≡_ {A = ℕ} 0 1 → A
+clash z = absurd (let n : ⊥ = omega arith in n)
+
+held : (n : ℕ) → Held n (against n)
+held n = go (ltb n (2 ^ 64)) refl (eqb n (2 ^ 64)) refl
+  where
+    go : (t : Bool) → ltb n (2 ^ 64) ≡ t → (u : Bool) → eqb n (2 ^ 64) ≡ u → Held n (against n)
+    go true e u f =
+        let l : n < 2 ^ 64 = ltb-true n (2 ^ 64) e in
+        let x : against n ≡ Below n = against-below n l in
+        record { below = λ b g. (cc, l); whole = λ g. clash (cc); above = λ g. clash (cc) }
+    go false e true f =
+        let w : n ≡ 2 ^ 64 = eqb-true n (2 ^ 64) f in
+        let x : against n ≡ Whole = against-whole n w in
+        record { below = λ b g. clash (cc); whole = λ g. w; above = λ g. clash (cc) }
+    go false e false f =
+        let l : 2 ^ 64 < n = lt-of-le-ne (ltb-false n (2 ^ 64) e) (λ w. eqb-false n (2 ^ 64) f (sym w)) in
+        let x : against n ≡ Above = against-above n l in
+        record { below = λ b g. clash (cc); whole = λ g. clash (cc); above = λ g. l }
+
+module _ (n : ℕ) where
+  pub held-below : (b : ℕ) → against n ≡ Below b → (b ≡ n) × (n < 2 ^ 64)
+  held-below = held n .below
+
+  pub held-whole : against n ≡ Whole → n ≡ 2 ^ 64
+  held-whole = held n .whole
+
+  pub held-above : against n ≡ Above → 2 ^ 64 < n
+  held-above = held n .above
 
 -- ---- p * b by two tests: whether it is at most 2^64 - 1, and whether (p - 1) * b is at most that less b - 1
 
@@ -89,15 +126,15 @@ product-more bs i h = rw (add-one i, take-suc bs i 0 h) (product-snoc (take i bs
 
 -- ---- no bound is 0
 
-pos-of-ne : (n : ℕ) → (n ≡ 0 → ⊥) → 0 < n
+pub pos-of-ne : (n : ℕ) → (n ≡ 0 → ⊥) → 0 < n
 pos-of-ne zero h = absurd (h refl)
 pos-of-ne (suc n) h = omega arith
 
-or-left : (a b : Bool) → (a || b) ≡ false → a ≡ false
+pub or-left : (a b : Bool) → (a || b) ≡ false → a ≡ false
 or-left true b e = e
 or-left false b e = refl
 
-or-right : (a b : Bool) → (a || b) ≡ false → b ≡ false
+pub or-right : (a b : Bool) → (a || b) ≡ false → b ≡ false
 or-right true b e = cc
 or-right false b e = e
 
@@ -119,3 +156,13 @@ module _ (bs : List ℕ) (i : ℕ) (h : i < length bs) where
 pub zero-none : (bs : List ℕ) (i : ℕ) → length bs ≤ i → hasZero (drop i bs) ≡ false
 unfolding hasZero
 zero-none bs i h = rw (drop-of-length-le bs h)
+
+-- ---- the product of bounds that are all at least 1
+
+pub product-some : (bs : List ℕ) → ((i : ℕ) → i < length bs → 0 < getD bs i 0) → 0 < product bs
+unfolding product
+product-some [] h = omega arith
+product-some (b ∷ bs) h = mul-pos (h 0 (suc-le-suc zero-le)) (product-some bs (λ i k. h (suc i) (suc-le-suc k)))
+
+pub product-pos : (bs : List ℕ) → hasZero bs ≡ false → 0 < product bs
+product-pos bs z = product-some bs (λ i h. zero-nowhere bs i z h)

@@ -1,10 +1,12 @@
 -- Long division in base 2, one bit a turn. Assumes nothing.
 use mathlib.Core.Path.{_≡_, refl, sym, ap, _∙_}
 use Prim.Native.Nat.{ℕ, zero, suc, _+_, _-_, _*_, _/_, _%_, _^_, _<_, _≤_}
-use native.Mathlib.Nat.{pow-suc, pow-zero, mod-one, mul-le-mul-left, not-suc-le-zero}
+use native.Mathlib.Nat.{div-add-mod', mod-lt, pow-suc, pow-zero, mod-one, mul-le-mul-left, not-suc-le-zero}
 use native.Mathlib.Omega.{arith}
 use lib.Arith.{digits-div, digits-mod}
 use lib.Pow.{mod-pow-add, pow-pos}
+use Rattle.arithmetic.specs.Rolls.{up}
+use Rattle.arithmetic.proofs.Limits.{pos-of-ne}
 
 -- with so many bits of low left: those above them, divided by b, are the quotient and the remainder so far
 abbrev pub Inv : ℕ → ℕ → ℕ → ℕ → ℕ → ℕ → Type 0
@@ -37,16 +39,22 @@ module _ (high low b q r left : ℕ) (v : Inv high low b q r left) (h : 0 < left
   room = omega (arith, v .2, rw (double left h) at (v .2), mul-le-mul-left (q + 1) (pow-pos (left - 1)))
 
   pub turn-below : r + low / 2 ^ (left - 1) % 2 < b - r → Inv high low b (q * 2) (r * 2 + low / 2 ^ (left - 1) % 2) (left - 1)
-  turn-below k =
-      (omega (arith, k), omega (arith, v .1), omega (arith, rw (double left h) at (v .2)),
-      below (high * 2 ^ 64 + low) q b r (2 ^ (left - 1)) (low / 2 ^ (left - 1) % 2) (low % 2 ^ (left - 1)) turned)
+  turn-below k = (
+    omega (arith, k),
+    omega (arith, v .1),
+    omega (arith, rw (double left h) at (v .2)),
+    below (high * 2 ^ 64 + low) q b r (2 ^ (left - 1)) (low / 2 ^ (left - 1) % 2) (low % 2 ^ (left - 1)) turned,
+  )
 
   pub turn-reached : b - r ≤ r + low / 2 ^ (left - 1) % 2
       → Inv high low b (q * 2 + 1) (r + low / 2 ^ (left - 1) % 2 - (b - r)) (left - 1)
-  turn-reached k =
-      (omega (arith, k), omega (arith, v .1), omega (arith, rw (double left h) at (v .2)),
-      reached (high * 2 ^ 64 + low) q b r (2 ^ (left - 1)) (low / 2 ^ (left - 1) % 2) (low % 2 ^ (left - 1)) turned
-      (r + low / 2 ^ (left - 1) % 2 - (b - r)) (omega (arith, k, v .0)))
+  turn-reached k = (
+    omega (arith, k),
+    omega (arith, v .1),
+    omega (arith, rw (double left h) at (v .2)),
+    reached (high * 2 ^ 64 + low) q b r (2 ^ (left - 1)) (low / 2 ^ (left - 1) % 2) (low % 2 ^ (left - 1)) turned
+        (r + low / 2 ^ (left - 1) % 2 - (b - r)) (omega (arith, k, v .0)),
+  )
 
 -- a remainder that stays below b when it is doubled stays a word
 pub doubled : (r bit b : ℕ) → r + bit < b - r → b < 2 ^ 64 → (r * 2 < 2 ^ 64) × (r * 2 + bit < 2 ^ 64)
@@ -61,3 +69,18 @@ done high low b q r zero z (l, k, m, e) =
     let f : high * 2 ^ 64 + low ≡ q * b + r = e ∙ omega (arith, mod-one low) in
     (sym (ap (λ (n : ℕ). n / b) f ∙ digits-div q l), sym (ap (λ (n : ℕ). n % b) f ∙ digits-mod q l))
 done high low b q r (suc left) z v = absurd (not-suc-le-zero z)
+
+-- ---- rounded up
+
+-- x / b, rounded up, from the quotient and the remainder
+module _ (x b : ℕ) (h : 0 < b) where
+  pub up-exact : x % b ≡ 0 → x / b ≡ up x b
+  up-exact e =
+      let f : x + (b - 1) ≡ x / b * b + (b - 1) = omega (arith, div-add-mod' x b) in
+      sym (ap (λ (n : ℕ). n / b) f ∙ digits-div (x / b) (omega arith))
+
+  pub up-more : (x % b ≡ 0 → ⊥) → x / b + 1 ≡ up x b
+  up-more e =
+      let s : 0 < x % b = pos-of-ne (x % b) e in
+      let f : x + (b - 1) ≡ (x / b + 1) * b + (x % b - 1) = omega (arith, div-add-mod' x b) in
+      sym (ap (λ (n : ℕ). n / b) f ∙ digits-div (x / b + 1) (omega (arith, mod-lt x h)))

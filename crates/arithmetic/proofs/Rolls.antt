@@ -72,9 +72,10 @@ pub rolls-in-range : (L : ℕ) (bs : List ℕ) (r : ℕ) → 0 < product bs → 
 unfolding rolls product inRange
 rolls-in-range L [] r p h = tt
 rolls-in-range L (b ∷ bs) r p h =
-    in-range-cons b bs (b * r / 2 ^ L) (rolls L bs (b * r % 2 ^ L)) .1
-    ((div-lt-iff-lt-mul (pow-pos L)) .1 (mul-lt-mul-of-pos-left h (product-pos-head b (product bs) p)),
-    rolls-in-range L bs (b * r % 2 ^ L) (product-pos-tail b (product bs) p) (mod-lt (b * r) (pow-pos L)))
+    in-range-cons b bs (b * r / 2 ^ L) (rolls L bs (b * r % 2 ^ L)) .1 (
+      (div-lt-iff-lt-mul (pow-pos L)) .1 (mul-lt-mul-of-pos-left h (product-pos-head b (product bs) p)),
+      rolls-in-range L bs (b * r % 2 ^ L) (product-pos-tail b (product bs) p) (mod-lt (b * r) (pow-pos L)),
+    )
 
 -- ---- mixed radix
 

@@ -15,9 +15,10 @@ use Rattle.arithmetic.specs.Rolls.{rolls, rest, product, value, threshol
 use Rattle.arithmetic.proofs.Rolls.{key-law, rest-below, rolls-in-range, value-below, value-one}
 
 pub up-le : (x w : ℕ) {b : ℕ} → 0 < b → (up x b ≤ w) ↔ (x ≤ b * w)
-up-le x w {b} p =
-    (λ h. let f : x + (b - 1) < suc w * b = (div-lt-iff-lt-mul p) .0 (suc-le-suc h) in omega arith,
-    λ h. let f : x + (b - 1) < suc w * b = omega arith in le-of-suc-le-suc ((div-lt-iff-lt-mul p) .1 f))
+up-le x w {b} p = (
+  λ h. let f : x + (b - 1) < suc w * b = (div-lt-iff-lt-mul p) .0 (suc-le-suc h) in omega arith,
+  λ h. let f : x + (b - 1) < suc w * b = omega arith in le-of-suc-le-suc ((div-lt-iff-lt-mul p) .1 f),
+)
 
 -- one word in one run, as numbers: W stands for 2^L, b for the product, x for the value of the word's rolls, r for its last r
 window : (W b a x r w : ℕ) → 0 < b → b ≤ W → r < W → b * w ≡ W * x + r
@@ -26,21 +27,29 @@ window W b a x r w p l h e = (to, from)
   where
     f : ℕ
     f = up (W * a + W % b) b
+
     q : ℕ
     q = W / b
+
     q-pos : 0 < q
     q-pos = (le-div-iff-mul-le p) .1 (omega arith)
+
     whole : b * q + W % b ≡ W
     whole = div-add-mod W b
+
     low : W * a + W % b ≤ b * f
     low = (up-le (W * a + W % b) f p) .0 (le-refl f)
+
     high : f * b ≤ W * a + W % b + (b - 1)
     high = div-mul-le-self (W * a + W % b + (b - 1)) b
+
     to : (W % b ≤ r) × (x ≡ a) → (f ≤ w) × (w ≤ f + q - 1)
     to (t, s) =
-        let wx : W * x ≡ W * a = ap (λ (n : ℕ). W * n) s in
-        ((up-le (W * a + W % b) w p) .1 (omega arith),
-        (let lt : w < f + q = lt-of-not-le (λ k. omega (arith, mul-le-mul-left b k, low, whole)) in omega (arith, q-pos)))
+        let wx : W * x ≡ W * a = ap (λ (n : ℕ). W * n) s in (
+          (up-le (W * a + W % b) w p) .1 (omega arith),
+          (let lt : w < f + q = lt-of-not-le (λ k. omega (arith, mul-le-mul-left b k, low, whole)) in omega (arith, q-pos)),
+        )
+
     from : (f ≤ w) × (w ≤ f + q - 1) → (W % b ≤ r) × (x ≡ a)
     from (t, s) =
         let at-least : W * a + W % b ≤ W * x + r = subst (λ (n : ℕ). W * a + W % b ≤ n) e ((up-le (W * a + W % b) w p) .0 t) in
@@ -52,7 +61,7 @@ window W b a x r w p l h e = (to, from)
         let wx : W * x ≡ W * a = ap (λ (n : ℕ). W * n) same in
         (omega arith, same)
 
-window-fits : (W b a : ℕ) → 0 < b → b ≤ W → a < b → up (W * a + W % b) b + W / b - 1 < W
+pub window-fits : (W b a : ℕ) → 0 < b → b ≤ W → a < b → up (W * a + W % b) b + W / b - 1 < W
 window-fits W b a p l h =
     let f : ℕ = up (W * a + W % b) b in
     let q : ℕ = W / b in
@@ -84,6 +93,7 @@ module _ (L : ℕ) (bs rs : List ℕ) (p : 0 < product bs) (l : product bs ≤ 2
         run : ((threshold L (product bs) ≤ rest L bs w) × (value bs (rolls L bs w) ≡ value bs rs))
             ↔ ((firstWord L bs rs ≤ w) × (w ≤ lastWord L bs rs))
         run = window (2 ^ L) (product bs) (value bs rs) (value bs (rolls L bs w)) (rest L bs w) w p l (rest-below L bs w h) (key-law L bs w)
+
         back : (firstWord L bs rs ≤ w) × (w ≤ lastWord L bs rs) → T (accepted L bs w) × (rolls L bs w ≡ rs)
         back k =
             (le→leb _ _ (run .1 k .0), value-one bs (rolls L bs w) rs (rolls-in-range L bs w p h) i (run .1 k .1))

@@ -1,6 +1,7 @@
 // A number of two words divided by one word, by long division in base 2: 64 steps, whatever the numbers.
 ghost use mathlib.Core.Path.{_≡_};
 ghost use Prim.Native.Nat.{_+_, _*_, _/_, _%_, _^_, _<_};
+ghost use Rattle.arithmetic.specs.Rolls.{up};
 
 pub struct Division {
     pub quotient: u64,
@@ -32,4 +33,16 @@ pub fn divide(high: u64, low: u64, b: u64) -> Division
         quotient,
         remainder,
     }
+}
+
+// The same, rounded up, where that is a word.
+pub fn divide_up(high: u64, low: u64, b: u64) -> u64
+    requires { ⌜ (high < b) × (up (high * 2 ^ 64 + low) b < 2 ^ 64) ⌝ }
+    ensures { λ r. ⌜ r ≡ up (high * 2 ^ 64 + low) b ⌝ }
+{
+    let division = divide(high, low, b);
+    if division.remainder == 0 {
+        return division.quotient;
+    }
+    division.quotient + 1
 }

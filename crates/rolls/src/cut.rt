@@ -1,6 +1,5 @@
 // Cutting a list of bounds into batches.
 use arithmetic::bounds::within;
-
 ghost use mathlib.Core.Path.{_≡_};
 ghost use mathlib.Core.Bool.{false};
 ghost use Prim.Native.Nat.{_<_};

@@ -1,6 +1,5 @@
 // The search for a batch's word: words are taken in list order until one is accepted or the list ends.
 use arithmetic::wide::low;
-
 ghost use mathlib.Core.Path.{_≡_};
 ghost use Prim.Native.Nat.{_≤_};
 ghost use lib.ListN.{length, drop};

@@ -1,10 +1,8 @@
 // Whether the words suffice for a list of bounds. It is known before anything is written: a refusal leaves every lent list as it was.
-use arithmetic::bounds::threshold_of;
-
 use super::cut::cut_at;
-use super::search::find_word;
 use super::search::Search;
-
+use super::search::find_word;
+use arithmetic::bounds::threshold_of;
 ghost use mathlib.Core.Path.{_≡_};
 ghost use mathlib.Core.Bool.{false};
 ghost use Prim.Native.Nat.{_≤_, _^_};

@@ -1,7 +1,6 @@
 // A word turned into the rolls of one batch.
 use arithmetic::wide::high;
 use arithmetic::wide::low;
-
 ghost use mathlib.Core.Path.{_≡_};
 ghost use mathlib.Core.List.{_++_};
 ghost use Prim.Native.Nat.{_≤_};

@@ -48,11 +48,12 @@ loop-less c = search needs
 -- src/bounds.rt:62:5
 loop-again : tie.Need-loop-again Inv-loop μ-loop
 loop-again c = let b = c .before .before .before in
-    let bs = b .before .before .args .bounds .now in
-    (search needs,
-    c .grow .ensures ∙ ap (λ (x : Product). grown x (getD bs (b .loop .i) 0)) (b .loop .inv .1)
-    ∙ grown-against (product (take (b .loop .i) bs)) (getD bs (b .loop .i) 0) (zero-nowhere bs (b .loop .i) (b .before .before .pre) (search needs))
-    ∙ ap against (sym (product-more bs (b .loop .i) (search needs))))
+    let bs = b .before .before .args .bounds .now in (
+      search needs,
+      c .grow .ensures ∙ ap (λ (x : Product). grown x (getD bs (b .loop .i) 0)) (b .loop .inv .1)
+          ∙ grown-against (product (take (b .loop .i) bs)) (getD bs (b .loop .i) 0) (zero-nowhere bs (b .loop .i) (b .before .before .pre) (search needs))
+          ∙ ap against (sym (product-more bs (b .loop .i) (search needs))),
+    )
 
 -- src/bounds.rt:56:1
 returns : tie.Need-returns Inv-loop μ-loop

@@ -1,0 +1,91 @@
+-- Which refusal is given. Assumes nothing.
+--
+--   decide-here, decide-past, decide-none    a refusal that applies is given; one that does not is passed over
+--   in-count, below-count, above-count       a count in its range, or out of it
+--   no-start, no-words, words-done           the last two refusals of every operation that uses words
+--   supplied-enough, supplied-short          what the answer of a dry run says of the run
+--   refused-seen, done-seen                  what the caller sees
+use mathlib.Core.Path.{_≡_, refl, sym, ap, ap₂, _∙_}
+use mathlib.Core.Bool.{Bool, true, false, _||_}
+use mathlib.Core.List.{List, [], _∷_, _++_}
+use Prim.Native.Nat.{ℕ, _+_, _<_, _≤_}
+use native.Mathlib.Omega.{arith}
+use lib.Dec.{ltb}
+use lib.ListN.{length, drop}
+use borrow.Author.Tests.{lt-ltb, le-ltb}
+use Rattle.rolls.specs.Run.{Run, ran, short, trace, next, rejected}
+use Rattle.rolls.specs.Outcome.{Outcome, refused, done, Refusal, no, noWord, decide, outside, shown, left}
+use Rattle.rolls.specs.declared.answer.Answer.{Answer}
+use Rattle.rolls.specs.Inner.{supplied, suffices}
+use Rattle.rolls.specs.declared.supply.Supply.the-variants.{Enough, Short}
+
+pub decide-here : (r : Refusal) (rs : List Refusal) (o : Outcome) → r .applies ≡ true → decide (r ∷ rs) o ≡ refused (r .number) (r .batch)
+unfolding decide
+decide-here r rs o e = rw (e, decide)
+
+pub decide-past : (r : Refusal) (rs : List Refusal) (o : Outcome) → r .applies ≡ false → decide (r ∷ rs) o ≡ decide rs o
+unfolding decide
+decide-past r rs o e = rw (e, decide)
+
+pub decide-none : (o : Outcome) → decide [] o ≡ o
+unfolding decide
+decide-none o = refl
+
+-- ---- counts
+
+pub in-count : (low high n : ℕ) → low ≤ n → n ≤ high → outside low high n ≡ false
+in-count low high n h k = ap₂ _||_ (le-ltb n low h) (le-ltb high n k)
+
+pub below-count : (low high n : ℕ) → n < low → outside low high n ≡ true
+below-count low high n h = ap (λ (b : Bool). b || ltb high n) (lt-ltb n low h)
+
+or-true : (b : Bool) → (b || true) ≡ true
+or-true true = refl
+or-true false = refl
+
+pub above-count : (low high n : ℕ) → high < n → outside low high n ≡ true
+above-count low high n h = ap (λ (b : Bool). ltb n low || b) (lt-ltb high n h) ∙ or-true (ltb n low)
+
+-- ---- the words
+
+module _ (words : List ℕ) (start : ℕ) (r : Run) (o : Outcome) where
+  pub no-start : length words < start → decide (no 9 (ltb (length words) start) ∷ noWord r ∷ []) o ≡ refused 9 0
+  no-start h = decide-here _ _ _ (lt-ltb (length words) start h)
+
+  module _ (h : start ≤ length words) where
+    pub no-words : (k : ℕ) → r ≡ short k → decide (no 9 (ltb (length words) start) ∷ noWord r ∷ []) o ≡ refused 10 k
+    no-words k e =
+        decide-past _ _ _ (le-ltb (length words) start h) ∙ decide-here _ _ _ (ap (λ (x : Run). noWord x .applies) e)
+        ∙ ap (λ (x : Run). refused (noWord x .number) (noWord x .batch)) e
+
+    pub words-done : suffices r ≡ true → decide (no 9 (ltb (length words) start) ∷ noWord r ∷ []) o ≡ o
+    words-done e = decide-past _ _ _ (le-ltb (length words) start h) ∙ decide-past _ _ _ (go r e) ∙ decide-none o
+      where
+        go : (x : Run) → suffices x ≡ true → noWord x .applies ≡ false
+        go (ran ts) f = refl
+        go (short k) f = sym f
+
+-- ---- the answer of a dry run
+
+pub record Known (start : ℕ) (r : Run) (to more : ℕ) : Type 0 where
+  pub enough : suffices r ≡ true
+  pub place : next start (trace r) ≡ to
+  pub passed : rejected start (trace r) ≡ more
+
+pub supplied-enough : (start : ℕ) (r : Run) (to more : ℕ) → supplied start r ≡ Enough to more → Known start r to more
+supplied-enough start (ran ts) to more e = record { enough = refl; place = cc; passed = cc }
+supplied-enough start (short k) to more e = absurd (let z : _≡_ {A = ℕ} 0 1 = cc in let n : ⊥ = omega arith in n)
+
+pub supplied-short : (start : ℕ) (r : Run) (k : ℕ) → supplied start r ≡ Short k → r ≡ short k
+supplied-short start (ran ts) k e = absurd (let z : _≡_ {A = ℕ} 0 1 = cc in let n : ⊥ = omega arith in n)
+supplied-short start (short j) k e = ap short (cc)
+
+-- ---- what the caller sees of one outcome: the answer, and the lent list
+
+pub refused-seen : (o : Outcome) (n k start : ℕ) (before : List ℕ) (a : Answer) → o ≡ refused n k → a ≡ shown start (refused n k)
+    → (a ≡ shown start o) × (before ≡ left before o)
+refused-seen o n k start before a e f = (f ∙ ap (shown start) (sym e), ap (left before) (sym e))
+
+pub done-seen : (o : Outcome) (values : List ℕ) (to more start : ℕ) (before out : List ℕ) → o ≡ done values to more
+    → out ≡ values ++ drop (length values) before → (record { no = 0; next = to; rejected = more; batch = 0 } ≡ shown start o) × (out ≡ left before o)
+done-seen o values to more start before out e f = (ap (shown start) (sym e), f ∙ ap (left before) (sym e))

@@ -1,0 +1,12 @@
+pub mod Cutting
+pub mod Deciding
+pub mod Filling
+pub mod Finding
+pub mod Listing
+pub mod OneBatch
+pub mod OneList
+pub mod Radix
+pub mod Running
+pub mod Supplying
+pub mod WayBack
+pub mod Writing

@@ -1,0 +1,135 @@
+-- Rolls in range, and their value read from the first roll on; the run of words behind a value. Assumes nothing.
+use mathlib.Core.Path.{_≡_, refl, sym, ap, ap₂, _∙_, subst}
+use mathlib.Core.Bool.{Bool, true, false, _&&_}
+use mathlib.Core.List.{List, [], _∷_}
+use Prim.Native.Nat.{ℕ, zero, suc, _+_, _-_, _*_, _/_, _%_, _^_, _<_, _≤_}
+use native.Mathlib.Nat.{le-mul-of-pos-right, div-eq-sub-div}
+use native.Mathlib.Numerals.{add-one}
+use native.Mathlib.Omega.{arith}
+use lib.Dec.{T, ltb}
+use lib.ListN.{length, drop, getD, drop-of-length-le}
+use lib.Seq.{drop-cons}
+use borrow.Author.Tests.{lt-ltb, le-ltb}
+use Rattle.arithmetic.specs.Rolls.{product, value, inRange, up, threshold}
+use Rattle.arithmetic.proofs.Rolls.{in-range-cons, value-below}
+use Rattle.arithmetic.proofs.Words.{window-fits}
+use Rattle.rolls.specs.Inner.{runBehind}
+
+-- ---- whether rolls are in range
+
+pub range-count : (bs rs : List ℕ) → (length bs ≡ length rs → ⊥) → inRange bs rs ≡ false
+unfolding inRange
+range-count [] [] h = absurd (h refl)
+range-count [] (r ∷ rs) h = refl
+range-count (b ∷ bs) [] h = refl
+range-count (b ∷ bs) (r ∷ rs) h = ap (λ (t : Bool). ltb r b && t) (range-count bs rs (λ e. h (ap suc e))) ∙ and-false (ltb r b)
+  where
+    and-false : (s : Bool) → (s && false) ≡ false
+    and-false true = refl
+    and-false false = refl
+
+module _ (bs rs : List ℕ) (i : ℕ) (e : length bs ≡ length rs) where
+  step : i < length bs → inRange (drop i bs) (drop i rs) ≡ (ltb (getD rs i 0) (getD bs i 0) && inRange (drop (i + 1) bs) (drop (i + 1) rs))
+  unfolding inRange
+  step h = rw (add-one i, drop-cons bs i 0 h, drop-cons rs i 0 (omega arith))
+
+  pub range-reached : i < length bs → getD bs i 0 ≤ getD rs i 0 → inRange (drop i bs) (drop i rs) ≡ false
+  range-reached h k = step h ∙ ap (λ (t : Bool). t && inRange (drop (i + 1) bs) (drop (i + 1) rs)) (le-ltb (getD rs i 0) (getD bs i 0) k)
+
+  pub range-below : i < length bs → getD rs i 0 < getD bs i 0 → inRange (drop (i + 1) bs) (drop (i + 1) rs) ≡ inRange (drop i bs) (drop i rs)
+  range-below h k = sym (step h ∙ ap (λ (t : Bool). t && inRange (drop (i + 1) bs) (drop (i + 1) rs)) (lt-ltb (getD rs i 0) (getD bs i 0) k))
+
+  pub range-end : length bs ≤ i → inRange (drop i bs) (drop i rs) ≡ true
+  unfolding inRange
+  range-end h =
+      ap₂ inRange (drop-of-length-le bs h) (drop-of-length-le rs {i = i} (omega arith))
+
+-- ---- the value, from the first roll on
+
+pub range-true : (bs rs : List ℕ) → inRange bs rs ≡ true → T (inRange bs rs)
+range-true bs rs e = subst T (sym e) tt
+
+same-count : (bs rs : List ℕ) → T (inRange bs rs) → length rs ≡ length bs
+unfolding inRange
+same-count [] [] t = refl
+same-count [] (r ∷ rs) t = absurd t
+same-count (b ∷ bs) [] t = absurd t
+same-count (b ∷ bs) (r ∷ rs) t = ap suc (same-count bs rs (in-range-cons b bs r rs .0 t .1))
+
+pub range-length : (bs rs : List ℕ) → inRange bs rs ≡ true → length rs ≡ length bs
+range-length bs rs e = same-count bs rs (range-true bs rs e)
+
+later : (i : ℕ) (bs rs : List ℕ) → T (inRange bs rs) → T (inRange (drop i bs) (drop i rs))
+unfolding inRange
+later zero bs rs t = t
+later (suc i) [] [] t = tt
+later (suc i) [] (r ∷ rs) t = absurd t
+later (suc i) (b ∷ bs) [] t = absurd t
+later (suc i) (b ∷ bs) (r ∷ rs) t = later i bs rs (in-range-cons b bs r rs .0 t .1)
+
+-- a is the value of the rolls read so far
+abbrev pub Reading : List ℕ → List ℕ → ℕ → ℕ → Type 0
+Reading bs rs a i = (i ≤ length bs) × (a * product (drop i bs) + value (drop i bs) (drop i rs) ≡ value bs rs)
+
+pub reading-none : (bs rs : List ℕ) → Reading bs rs 0 0
+reading-none bs rs = (omega arith, omega arith)
+
+module _ (bs rs : List ℕ) (a i : ℕ) (v : Reading bs rs a i) where
+  module _ (h : i < length bs) (k : i < length rs) where
+    pub reading-turn : Reading bs rs (a * getD bs i 0 + getD rs i 0) (i + 1)
+    unfolding product value
+    reading-turn =
+        let f : drop i bs ≡ getD bs i 0 ∷ drop (i + 1) bs = rw (add-one i) (drop-cons bs i 0 h) in
+        let g : drop i rs ≡ getD rs i 0 ∷ drop (i + 1) rs = rw (add-one i) (drop-cons rs i 0 k) in
+        let e : a * (getD bs i 0 * product (drop (i + 1) bs)) + (getD rs i 0 * product (drop (i + 1) bs) + value (drop (i + 1) bs) (drop (i + 1) rs)) ≡ value bs rs
+        = rw (f, g) at (v .1) in
+        (omega arith, omega (arith, e))
+
+    -- nothing on the way passes the value
+    pub reading-fits : inRange bs rs ≡ true → product bs ≤ 2 ^ 64 → (a * getD bs i 0 < 2 ^ 64) × (a * getD bs i 0 + getD rs i 0 < 2 ^ 64)
+    reading-fits e m =
+        let t = range-true bs rs e in
+        let f : value bs rs < product bs = value-below bs rs t in
+        let p : 0 < product (drop (i + 1) bs) = omega (arith, value-below (drop (i + 1) bs) (drop (i + 1) rs) (later (i + 1) bs rs t)) in
+        let l : a * getD bs i 0 + getD rs i 0 ≤ (a * getD bs i 0 + getD rs i 0) * product (drop (i + 1) bs) = le-mul-of-pos-right _ p in
+        (omega (arith, l, reading-turn .1), omega (arith, l, reading-turn .1))
+
+  pub reading-done : length bs ≤ i → a ≡ value bs rs
+  unfolding product value
+  reading-done h =
+      let e : a * product [] + value [] (drop i rs) ≡ value bs rs = rw (drop-of-length-le bs h) at (v .1) in
+      omega (arith, e)
+
+-- ---- the run of words behind a value
+
+-- the number of words less one, by zero less b with wrap
+pub words-less-one : (W b r : ℕ) → 0 < b → b ≤ W → r ≡ W - b → r / b + 1 ≡ W / b
+words-less-one W b r h l e = rw e (sym (div-eq-sub-div h l))
+
+-- the dividend as the code has it
+dividend : (a b t : ℕ) → t ≡ threshold 64 b → a * 2 ^ 64 + t ≡ 2 ^ 64 * a + threshold 64 b
+dividend a b t e = omega (arith, e)
+
+module _ (a b t : ℕ) (h : a < b) (l : b < 2 ^ 64) (e : t ≡ threshold 64 b) where
+  some : 0 < b
+  some = omega (arith, h)
+
+  last-fits : up (2 ^ 64 * a + threshold 64 b) b + 2 ^ 64 / b - 1 < 2 ^ 64
+  last-fits = window-fits (2 ^ 64) b a some (omega (arith, l)) h
+
+  pub first-fits : up (a * 2 ^ 64 + t) b < 2 ^ 64
+  first-fits =
+      rw (dividend a b t e) (omega (arith, last-fits, words-less-one (2 ^ 64) b (2 ^ 64 - b) some (omega (arith, l)) refl))
+
+  module _ (first : ℕ) (f : first ≡ up (a * 2 ^ 64 + t) b) (r : ℕ) (g : r ≡ 2 ^ 64 - b) where
+    is-first : first ≡ up (2 ^ 64 * a + threshold 64 b) b
+    is-first = f ∙ ap (λ (x : ℕ). up x b) (dividend a b t e)
+
+    is-last : first + r / b ≡ up (2 ^ 64 * a + threshold 64 b) b + 2 ^ 64 / b - 1
+    is-last = omega (arith, is-first, words-less-one (2 ^ 64) b r some (omega (arith, l)) g)
+
+    pub run-last : first + r / b < 2 ^ 64
+    run-last = rw is-last last-fits
+
+    pub run-found : record { no = 0; next = 0; rejected = 0; first = first; last = first + r / b } ≡ runBehind 64 b a
+    run-found = λ i. record { no = 0; next = 0; rejected = 0; first = is-first i; last = is-last i }

@@ -1,0 +1,63 @@
+-- The words behind rolls, refusal by refusal. Assumes nothing.
+use mathlib.Core.Path.{_≡_, refl, sym, ap, _∙_}
+use mathlib.Core.Bool.{true, false, not}
+use mathlib.Core.List.{List, [], _∷_}
+use Prim.Native.Nat.{ℕ, _+_, _-_, _*_, _^_, _<_, _≤_}
+use native.Mathlib.Omega.{arith}
+use lib.Dec.{ltb}
+use lib.ListN.{length}
+use Rattle.arithmetic.specs.Rolls.{product, value, inRange, firstWord, lastWord}
+use Rattle.arithmetic.specs.Products.{hasZero, against}
+use Rattle.arithmetic.specs.declared.bounds.Product.the-variants.{Below, Whole}
+use Rattle.arithmetic.specs.Width.{w64}
+use Rattle.arithmetic.proofs.Limits.{held-below, held-whole}
+use Rattle.arithmetic.proofs.Rolls.{value-below}
+use Rattle.rolls.specs.Outcome.{Outcome, refused, done, no, decide, outside, shownBehind}
+use Rattle.rolls.specs.Operations.{wordsBehind}
+use Rattle.rolls.specs.Inner.{runBehind}
+use Rattle.rolls.specs.declared.answer.Behind.{Behind}
+use Rattle.rolls.proofs.Deciding.{decide-here, decide-past, decide-none}
+use Rattle.rolls.proofs.Radix.{range-true}
+
+module _ (bs rs : List ℕ) where
+  pub behind-count : outside 1 16 (length bs) ≡ true → wordsBehind w64 bs rs ≡ refused 2 0
+  unfolding wordsBehind
+  behind-count e = decide-here _ _ _ e
+
+  module _ (count : outside 1 16 (length bs) ≡ false) where
+    pub behind-zero : hasZero bs ≡ true → wordsBehind w64 bs rs ≡ refused 4 0
+    unfolding wordsBehind
+    behind-zero e = decide-past _ _ _ count ∙ decide-here _ _ _ e
+
+    module _ (zeros : hasZero bs ≡ false) where
+      pub behind-product : ltb (2 ^ 64) (product bs) ≡ true → wordsBehind w64 bs rs ≡ refused 5 0
+      unfolding wordsBehind
+      behind-product e = decide-past _ _ _ count ∙ decide-past _ _ _ zeros ∙ decide-here _ _ _ e
+
+      module _ (fits : ltb (2 ^ 64) (product bs) ≡ false) where
+        pub behind-misfit : inRange bs rs ≡ false → wordsBehind w64 bs rs ≡ refused 7 0
+        unfolding wordsBehind
+        behind-misfit e = decide-past _ _ _ count ∙ decide-past _ _ _ zeros ∙ decide-past _ _ _ fits ∙ decide-here _ _ _ (ap not e)
+
+        pub behind-found : inRange bs rs ≡ true → shownBehind (wordsBehind w64 bs rs) ≡ runBehind 64 (product bs) (value bs rs)
+        unfolding wordsBehind
+        behind-found e =
+            ap shownBehind
+            (decide-past _ _ _ count ∙ decide-past _ _ _ zeros ∙ decide-past _ _ _ fits ∙ decide-past _ _ _ (ap not e)
+            ∙ decide-none (done (firstWord 64 bs rs ∷ lastWord 64 bs rs ∷ []) 0 0))
+
+-- ---- the value and its run, as the code has them
+
+pub value-fits : (bs rs : List ℕ) (b : ℕ) → against (product bs) ≡ Below b → inRange bs rs ≡ true → value bs rs < b
+value-fits bs rs b e i = rw (held-below (product bs) b e .0) (value-below bs rs (range-true bs rs i))
+
+-- with 2^64 words and 2^64 values each value has one word, itself
+pub run-whole : (bs : List ℕ) (a : ℕ) → against (product bs) ≡ Whole
+    → record { no = 0; next = 0; rejected = 0; first = a; last = a } ≡ runBehind 64 (product bs) a
+run-whole bs a e = rw (held-whole (product bs) e) (λ i. record { no = 0; next = 0; rejected = 0; first = first i; last = last i })
+  where
+    first : a ≡ runBehind 64 (2 ^ 64) a .first
+    first = omega arith
+
+    last : a ≡ runBehind 64 (2 ^ 64) a .last
+    last = omega arith

@@ -1,0 +1,84 @@
+-- A lent list that is written from the front, and whose rest is as it was. Assumes nothing.
+--
+--   stored-front, stored-back    one store behind those written so far
+--   Unfolding, unfold-turn       the loop that writes a word's rolls
+--   wrote, lent                  a part that was lent on, and written at its front
+use mathlib.Core.Path.{_≡_, refl, sym, ap, _∙_}
+use mathlib.Core.List.{List, [], _∷_, _++_, append-assoc, append-nil}
+use Prim.Native.Nat.{ℕ, zero, suc, _+_, _-_, _*_, _/_, _%_, _^_, _<_, _≤_}
+use native.Mathlib.Numerals.{add-one}
+use native.Mathlib.Omega.{arith}
+use lib.ListN.{length, take, drop, set, getD, length-set, length-append, length-drop, take-append-drop, drop-of-length-le}
+use lib.Seq.{drop-cons, drop-drop, drop-set-lt, take-suc-set, take-all, take-at, drop-at, length-take-le}
+use borrow.Rule.Slice.PartMut.{putMid}
+use Rattle.arithmetic.specs.Rolls.{rolls}
+
+pub stored-front : (l : List ℕ) (i v : ℕ) → i < length l → take (i + 1) (set l i v) ≡ take i l ++ (v ∷ [])
+stored-front l i v h = rw add-one (take-suc-set l i v h)
+
+-- what stands behind i stands behind what comes after it too
+pub drop-more : (l m : List ℕ) (i n : ℕ) → drop i l ≡ drop i m → drop (i + n) l ≡ drop (i + n) m
+drop-more l m i n e = sym (drop-drop n i l) ∙ ap (λ (x : List ℕ). drop n x) e ∙ drop-drop n i m
+
+pub stored-back : (l m : List ℕ) (i v : ℕ) → drop i l ≡ drop i m → drop (i + 1) (set l i v) ≡ drop (i + 1) m
+stored-back l m i v e = drop-set-lt (i + 1) l i v (omega arith) ∙ drop-more l m i 1 e
+
+-- ---- the rolls of a word
+
+rolls-step : (L : ℕ) (bs : List ℕ) (r i : ℕ) → i < length bs
+    → rolls L (drop i bs) r ≡ getD bs i 0 * r / 2 ^ L ∷ rolls L (drop (i + 1) bs) (getD bs i 0 * r % 2 ^ L)
+unfolding rolls
+rolls-step L bs r i h = rw (add-one i, drop-cons bs i 0 h)
+
+rolls-end : (L : ℕ) (bs : List ℕ) (r i : ℕ) → length bs ≤ i → rolls L (drop i bs) r ≡ []
+unfolding rolls
+rolls-end L bs r i h = rw (drop-of-length-le bs h)
+
+-- the rolls of the first i bounds are written, and r is what they left
+abbrev pub Unfolding : ℕ → List ℕ → List ℕ → ℕ → List ℕ → ℕ → ℕ → Type 0
+Unfolding L out₀ bs word out r i =
+    (i ≤ length bs) × (length out ≡ length out₀) × (take i out ++ rolls L (drop i bs) r ≡ rolls L bs word) × (drop i out ≡ drop i out₀)
+
+module _ (L : ℕ) (out₀ bs : List ℕ) (word : ℕ) (out : List ℕ) (r i : ℕ) (v : Unfolding L out₀ bs word out r i) where
+  pub unfold-turn : (q s : ℕ) → i < length bs → length bs ≤ length out₀ → q ≡ getD bs i 0 * r / 2 ^ L → s ≡ getD bs i 0 * r % 2 ^ L
+      → Unfolding L out₀ bs word (set out i q) s (i + 1)
+  unfold-turn q s h room e f = (
+    omega arith,
+    length-set out i q ∙ v .1,
+    rw (stored-front out i q (omega arith), append-assoc, e, f) (rw (rolls-step L bs r i h) at (v .2)),
+    stored-back out out₀ i q (v .3),
+  )
+
+  pub unfold-done : length bs ≤ i → out ≡ rolls L bs word ++ drop (length bs) out₀
+  unfold-done h =
+      let front : take i out ≡ rolls L bs word = sym (append-nil (take i out)) ∙ (rw (rolls-end L bs r i h) at (v .2)) in
+      let e : i ≡ length bs = omega arith in
+      sym (take-append-drop i out) ∙ rw (front, v .3, e)
+
+-- ---- a part of the list, lent on from the place at, to a function that wrote d at its front
+
+module _ (out d : List ℕ) (at : ℕ) (h : at + length d ≤ length out) where
+  abbrev pub wrote : List ℕ
+  wrote = take at out ++ (d ++ drop (at + length d) out)
+
+  front-length : length (take at out ++ d) ≡ at + length d
+  front-length = rw (length-append, length-take-le at out (omega arith))
+
+  again : wrote ≡ (take at out ++ d) ++ drop (at + length d) out
+  again = rw append-assoc
+
+  pub wrote-front : take (at + length d) wrote ≡ take at out ++ d
+  wrote-front = rw again (take-at (take at out ++ d) _ _ front-length)
+
+  pub wrote-back : drop (at + length d) wrote ≡ drop (at + length d) out
+  wrote-back = rw again (drop-at (take at out ++ d) _ _ front-length)
+
+  pub wrote-length : length wrote ≡ length out
+  wrote-length = rw again (rw (length-append, front-length, length-drop) (omega arith))
+
+  pub lent : (last : List ℕ) → last ≡ d ++ drop (length d) (take (length out - at) (drop at out))
+      → putMid at (length out - at) out last ≡ wrote
+  lent last e =
+      let whole : take (length out - at) (drop at out) ≡ drop at out = take-all (length out - at) (drop at out) (rw length-drop (omega arith)) in
+      let none : drop (length out - at) (drop at out) ≡ [] = drop-of-length-le (drop at out) {i = length out - at} (rw length-drop (omega arith)) in
+      rw (e, whole, none, drop-drop (length d) at out, append-nil)
