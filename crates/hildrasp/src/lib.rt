@@ -1,0 +1,37 @@
+// The C face: each public operation under its C name, with the operation's own contract. A list crosses as a pointer and a count,
+// an answer by value. include/hildrasp.h declares these functions, and rust/ wraps them.
+use rolls::answer::Answer;
+use rolls::answer::Batch;
+use rolls::answer::Behind;
+ghost use mathlib.Core.Path.{_≡_};
+ghost use lib.ListN.{length};
+ghost use Rattle.arithmetic.specs.Width.{w64};
+ghost use Rattle.rolls.specs.Outcome.{shown, shownBatch, shownBehind, left};
+ghost use Rattle.rolls.specs.Operations.{rollBatch, rollList, wordsBehind};
+
+#[no_mangle]
+pub extern "C" fn hildrasp_roll_batch(words: &[u64], start: usize, bounds: &[u64]) -> Batch
+    ensures { λ r. ⌜ r ≡ shownBatch start (rollBatch w64 (now (words .entry)) start (now (bounds .entry))) ⌝ }
+{
+    rolls::batch::roll_batch(words, start, bounds)
+}
+
+#[no_mangle]
+pub extern "C" fn hildrasp_roll_list(
+    words: &[u64],
+    start: usize,
+    bounds: &[u64],
+    rolls: &mut [u64],
+) -> Answer
+    ensures answer { λ r. ⌜ r ≡ shown start (rollList w64 (now (words .entry)) start (now (bounds .entry)) (length (now (rolls .entry)))) ⌝ }
+    ensures rolls { λ r. ⌜ now (rolls .exit) ≡ left (now (rolls .entry)) (rollList w64 (now (words .entry)) start (now (bounds .entry)) (length (now (rolls .entry)))) ⌝ }
+{
+    rolls::list::roll_list(words, start, bounds, rolls)
+}
+
+#[no_mangle]
+pub extern "C" fn hildrasp_words_behind(bounds: &[u64], rolls: &[u64]) -> Behind
+    ensures { λ r. ⌜ r ≡ shownBehind (wordsBehind w64 (now (bounds .entry)) (now (rolls .entry))) ⌝ }
+{
+    rolls::behind::words_behind(bounds, rolls)
+}

@@ -1,0 +1,76 @@
+/*
+ * The C face of Hildrasp: random words from outside become dice rolls.
+ *
+ * A list is a pointer and a count. Every call is answered for every input. `no` is 0 where nothing is refused, and
+ * else the number of the refusal; a refusal returns the start place as given in `next` (0 where the call takes none)
+ * and zeros elsewhere, except that HILDRASP_WORDS also names the first batch, from 0, that got no word. Every lent
+ * list is then exactly what it was.
+ */
+#ifndef HILDRASP_H
+#define HILDRASP_H
+
+#include <stddef.h>
+#include <stdint.h>
+
+#ifdef __cplusplus
+extern "C" {
+#endif
+
+/* The numbers for no. The lowest that applies is given. */
+enum {
+    HILDRASP_SHEET = 1,   /* the sheet is not sound */
+    HILDRASP_COUNT = 2,   /* bounds or records outside their count */
+    HILDRASP_SAMPLE = 3,  /* k is 0 or above n; on a sheet, w is above k */
+    HILDRASP_ZERO = 4,    /* some bound is 0 */
+    HILDRASP_PRODUCT = 5, /* product of one batch above 2^64 */
+    HILDRASP_ROOM = 6,    /* the lent result list is too short */
+    HILDRASP_MISFIT = 7,  /* rolls and bounds differ in count, or a roll reaches its bound */
+    HILDRASP_ORDER = 8,   /* the list isn't each of 0..n - 1 once */
+    HILDRASP_START = 9,   /* start place above the number of words */
+    HILDRASP_WORDS = 10   /* the list ends before some batch has an accepted word */
+};
+
+/* The answer of a call that writes into a lent list. */
+typedef struct {
+    uint64_t no;
+    size_t next;     /* the place after the last word used */
+    size_t rejected; /* the count of rejected words */
+    size_t batch;    /* at HILDRASP_WORDS, the first batch that got no word */
+} hildrasp_answer;
+
+/* One batch: its rolls and their count; places past the count are 0. */
+typedef struct {
+    uint64_t no;
+    size_t next;
+    size_t rejected;
+    size_t count;
+    uint64_t rolls[16];
+} hildrasp_batch;
+
+/* The run of words behind rolls: its first and its last word. `next` and `rejected` are 0. */
+typedef struct {
+    uint64_t no;
+    size_t next;
+    size_t rejected;
+    uint64_t first;
+    uint64_t last;
+} hildrasp_behind;
+
+/* Rolls one batch of 1 to 16 bounds. Refusals: 2, 4, 5, 9, 10. */
+hildrasp_batch hildrasp_roll_batch(const uint64_t *words, size_t word_count, size_t start,
+                                   const uint64_t *bounds, size_t bound_count);
+
+/* Rolls a list of 0 to 4,096 bounds into the lent list `rolls`. Refusals: 2, 4, 6, 9, 10. */
+hildrasp_answer hildrasp_roll_list(const uint64_t *words, size_t word_count, size_t start,
+                                   const uint64_t *bounds, size_t bound_count,
+                                   uint64_t *rolls, size_t room);
+
+/* Names the words that give these rolls, accepted. Refusals: 2, 4, 5, 7. */
+hildrasp_behind hildrasp_words_behind(const uint64_t *bounds, size_t bound_count,
+                                      const uint64_t *rolls, size_t roll_count);
+
+#ifdef __cplusplus
+}
+#endif
+
+#endif

@@ -1,0 +1,14 @@
+//! Links the proved library, `target/staticlib/libhildrasp.a` beside this package, and builds again when it changes.
+
+use std::env;
+use std::path::PathBuf;
+
+fn main() {
+    let package = PathBuf::from(env::var_os("CARGO_MANIFEST_DIR").expect("cargo names the package's folder"));
+    let folder = package.join("../target/staticlib");
+    let archive = folder.join("libhildrasp.a");
+    println!("cargo:rerun-if-changed={}", archive.display());
+    assert!(archive.exists(), "{} is missing: build the static library first", archive.display());
+    println!("cargo:rustc-link-search=native={}", folder.display());
+    println!("cargo:rustc-link-lib=static=hildrasp");
+}

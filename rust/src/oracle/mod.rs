@@ -1,0 +1,109 @@
+//! The oracle: the operations again, in plain Rust with 128-bit arithmetic, written from document 01 alone.
+//!
+//! An operation is its refusals in order, its plan, the run of the plan over the words, and a reading of the rolls.
+//! The oracle calls nothing of the proved library; the two have only the shape of their answers in common.
+
+pub mod plan;
+pub mod run;
+pub mod word;
+
+use crate::raw::{Answer, Batch, Behind};
+use crate::refusal::Refusal;
+use plan::{cut, MAX_BATCH};
+use run::run;
+use word::{power, product, run_of_words, L};
+
+/// The most bounds in a list.
+pub const MAX_LIST: usize = 4096;
+
+/// What an operation comes to: values for the front of the lent list, or a refusal.
+type Outcome<T> = Result<Done<T>, Refusal>;
+
+/// An operation that was not refused.
+struct Done<T> {
+    values: Vec<T>,
+    next: usize,
+    rejected: usize,
+}
+
+/// The refusal of the first test that holds; the tests stand in the order of their numbers.
+fn refuse(tests: &[(Refusal, bool)]) -> Result<(), Refusal> {
+    match tests.iter().find(|(_, holds)| *holds) {
+        Some(&(refusal, _)) => Err(refusal),
+        None => Ok(()),
+    }
+}
+
+/// The answer that shows an outcome.
+fn shown<T>(start: usize, outcome: &Outcome<T>) -> Answer {
+    match outcome {
+        Ok(done) => Answer { no: 0, next: done.next, rejected: done.rejected, batch: 0 },
+        Err(refusal) => Answer { no: refusal.number(), next: start, rejected: 0, batch: refusal.batch() },
+    }
+}
+
+/// Leaves in a lent list what an outcome puts there: on a refusal the list stays the same.
+fn leave<T: Copy>(outcome: &Outcome<T>, lent: &mut [T]) {
+    if let Ok(done) = outcome {
+        lent[..done.values.len()].copy_from_slice(&done.values);
+    }
+}
+
+/// Rolls one batch.
+pub fn roll_batch(words: &[u64], start: usize, bounds: &[u64]) -> Batch {
+    match batch(words, start, bounds) {
+        Ok(done) => {
+            let mut rolls = [0; MAX_BATCH];
+            rolls[..done.values.len()].copy_from_slice(&done.values);
+            Batch { no: 0, next: done.next, rejected: done.rejected, count: done.values.len(), rolls }
+        }
+        Err(refusal) => Batch { no: refusal.number(), next: start, rejected: 0, count: 0, rolls: [0; MAX_BATCH] },
+    }
+}
+
+fn batch(words: &[u64], start: usize, bounds: &[u64]) -> Outcome<u64> {
+    refuse(&[
+        (Refusal::Count, bounds.is_empty() || bounds.len() > MAX_BATCH),
+        (Refusal::Zero, bounds.contains(&0)),
+        (Refusal::Product, product(bounds) > power(L)),
+        (Refusal::Start, start > words.len()),
+    ])?;
+    let trace = run(&[bounds.to_vec()], words, start)?;
+    Ok(Done { values: trace.rolls(), next: trace.next, rejected: trace.rejected })
+}
+
+/// Rolls a list of bounds into the lent list.
+pub fn roll_list(words: &[u64], start: usize, bounds: &[u64], lent: &mut [u64]) -> Answer {
+    let outcome = list(words, start, bounds, lent.len());
+    leave(&outcome, lent);
+    shown(start, &outcome)
+}
+
+fn list(words: &[u64], start: usize, bounds: &[u64], room: usize) -> Outcome<u64> {
+    refuse(&[
+        (Refusal::Count, bounds.len() > MAX_LIST),
+        (Refusal::Zero, bounds.contains(&0)),
+        (Refusal::Room, room < bounds.len()),
+        (Refusal::Start, start > words.len()),
+    ])?;
+    let trace = run(&cut(bounds), words, start)?;
+    Ok(Done { values: trace.rolls(), next: trace.next, rejected: trace.rejected })
+}
+
+/// Names the words behind rolls.
+pub fn words_behind(bounds: &[u64], rolls: &[u64]) -> Behind {
+    let misfit = bounds.len() != rolls.len() || bounds.iter().zip(rolls).any(|(bound, roll)| roll >= bound);
+    let refused = refuse(&[
+        (Refusal::Count, bounds.is_empty() || bounds.len() > MAX_BATCH),
+        (Refusal::Zero, bounds.contains(&0)),
+        (Refusal::Product, product(bounds) > power(L)),
+        (Refusal::Misfit, misfit),
+    ]);
+    match refused {
+        Ok(()) => {
+            let (first, last) = run_of_words(L, bounds, rolls);
+            Behind { no: 0, next: 0, rejected: 0, first, last }
+        }
+        Err(refusal) => Behind { no: refusal.number(), next: 0, rejected: 0, first: 0, last: 0 },
+    }
+}

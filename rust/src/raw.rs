@@ -1,0 +1,98 @@
+//! The C face of the proved library, as `include/hildrasp.h` declares it, and one safe function over slices for each
+//! of its calls. All of the package's `unsafe` is here.
+
+/// The answer of a call that writes into a lent list.
+#[repr(C)]
+#[derive(Debug, Clone, Copy, PartialEq, Eq)]
+pub struct Answer {
+    /// The number of the refusal, 0 where nothing is refused.
+    pub no: u64,
+    /// The place after the last word used; on a refusal the start place as given.
+    pub next: usize,
+    /// The count of rejected words.
+    pub rejected: usize,
+    /// At number 10, the first batch, from 0, that got no word.
+    pub batch: usize,
+}
+
+/// One batch: its rolls by value with their count; places past the count are 0.
+#[repr(C)]
+#[derive(Debug, Clone, Copy, PartialEq, Eq)]
+pub struct Batch {
+    /// The number of the refusal, 0 where nothing is refused.
+    pub no: u64,
+    /// The place after the last word used; on a refusal the start place as given.
+    pub next: usize,
+    /// The count of rejected words.
+    pub rejected: usize,
+    /// The count of rolls.
+    pub count: usize,
+    /// The rolls, zeros past the count.
+    pub rolls: [u64; 16],
+}
+
+/// The run of words behind rolls.
+#[repr(C)]
+#[derive(Debug, Clone, Copy, PartialEq, Eq)]
+pub struct Behind {
+    /// The number of the refusal, 0 where nothing is refused.
+    pub no: u64,
+    /// Always 0: no word is used.
+    pub next: usize,
+    /// Always 0: no word is used.
+    pub rejected: usize,
+    /// The first word of the run.
+    pub first: u64,
+    /// The last word of the run.
+    pub last: u64,
+}
+
+extern "C" {
+    fn hildrasp_roll_batch(
+        words: *const u64,
+        word_count: usize,
+        start: usize,
+        bounds: *const u64,
+        bound_count: usize,
+    ) -> Batch;
+
+    fn hildrasp_roll_list(
+        words: *const u64,
+        word_count: usize,
+        start: usize,
+        bounds: *const u64,
+        bound_count: usize,
+        rolls: *mut u64,
+        room: usize,
+    ) -> Answer;
+
+    fn hildrasp_words_behind(bounds: *const u64, bound_count: usize, rolls: *const u64, roll_count: usize) -> Behind;
+}
+
+// Safety, for every call below: each pointer and the count beside it are those of one slice, which lives through the
+// call, and the library asks nothing else of its caller.
+
+/// Rolls one batch.
+pub fn roll_batch(words: &[u64], start: usize, bounds: &[u64]) -> Batch {
+    unsafe { hildrasp_roll_batch(words.as_ptr(), words.len(), start, bounds.as_ptr(), bounds.len()) }
+}
+
+/// Rolls a list of bounds into the lent list `rolls`.
+pub fn roll_list(words: &[u64], start: usize, bounds: &[u64], rolls: &mut [u64]) -> Answer {
+    unsafe {
+        hildrasp_roll_list(
+            words.as_ptr(),
+            words.len(),
+            start,
+            bounds.as_ptr(),
+            bounds.len(),
+            rolls.as_mut_ptr(),
+            rolls.len(),
+        )
+    }
+}
+
+/// Names the words behind rolls.
+pub fn words_behind(bounds: &[u64], rolls: &[u64]) -> Behind {
+    unsafe { hildrasp_words_behind(bounds.as_ptr(), bounds.len(), rolls.as_ptr(), rolls.len()) }
+}

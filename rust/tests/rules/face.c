@@ -1,0 +1,47 @@
+/*
+ * A C program over include/hildrasp.h: one call of each function, on an example of document 01, and one refusal with
+ * the list that it must leave alone.
+ */
+#include <hildrasp.h>
+#include <stdio.h>
+#include <stdlib.h>
+
+static void holds(int rule, const char *text)
+{
+    if (!rule) {
+        fprintf(stderr, "does not hold: %s\n", text);
+        exit(1);
+    }
+}
+
+#define HOLDS(rule) holds(rule, #rule)
+
+int main(void)
+{
+    const uint64_t words[2] = {0, 1};
+
+    const uint64_t bound[1] = {UINT64_MAX};
+    hildrasp_batch batch = hildrasp_roll_batch(words, 2, 0, bound, 1);
+    HOLDS(batch.no == 0 && batch.next == 2 && batch.rejected == 1 && batch.count == 1);
+    for (int place = 0; place < 16; place++)
+        HOLDS(batch.rolls[place] == 0);
+
+    const uint64_t ones[17] = {1, 1, 1, 1, 1, 1, 1, 1, 1, 1, 1, 1, 1, 1, 1, 1, 1};
+    uint64_t rolls[18];
+    for (int place = 0; place < 18; place++)
+        rolls[place] = 9;
+    hildrasp_answer list = hildrasp_roll_list(words, 1, 0, ones, 17, rolls, 18);
+    HOLDS(list.no == HILDRASP_WORDS && list.next == 0 && list.rejected == 0 && list.batch == 1);
+    for (int place = 0; place < 18; place++)
+        HOLDS(rolls[place] == 9);
+    list = hildrasp_roll_list(words, 2, 0, ones, 17, rolls, 18);
+    HOLDS(list.no == 0 && list.next == 2 && list.rejected == 0 && list.batch == 0);
+    HOLDS(rolls[0] == 0 && rolls[16] == 0 && rolls[17] == 9);
+
+    const uint64_t bounds[2] = {2, 6}, wanted[2] = {0, 0};
+    hildrasp_behind run = hildrasp_words_behind(bounds, 2, wanted, 2);
+    HOLDS(run.no == 0 && run.next == 0 && run.rejected == 0);
+    HOLDS(run.first == 1 && run.last == UINT64_C(1537228672809129301));
+
+    return 0;
+}

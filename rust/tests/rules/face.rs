@@ -1,0 +1,79 @@
+//! The faces of the library: the safe Rust face gives each refusal its name, and the C header serves a C program.
+
+use crate::support::built_program;
+use hildrasp::{roll_batch, roll_list, words_behind, Refusal, Used};
+use std::env;
+use std::path::Path;
+use std::process::Command;
+
+#[test]
+fn a_refusal_carries_the_number_that_the_rules_fix_for_it() {
+    let refusals = [
+        (Refusal::Sheet, 1),
+        (Refusal::Count, 2),
+        (Refusal::Sample, 3),
+        (Refusal::Zero, 4),
+        (Refusal::Product, 5),
+        (Refusal::Room, 6),
+        (Refusal::Misfit, 7),
+        (Refusal::Order, 8),
+        (Refusal::Start, 9),
+        (Refusal::Words { batch: 3 }, 10),
+    ];
+    for (refusal, number) in refusals {
+        assert_eq!(refusal.number(), number);
+        assert!(refusal.to_string().starts_with(&format!("refused {number}: ")));
+        assert_eq!(refusal.batch(), if number == 10 { 3 } else { 0 });
+    }
+}
+
+#[test]
+fn one_batch_can_meet_2_4_5_9_10() {
+    assert_eq!(roll_batch(&[1], 0, &[]), Err(Refusal::Count));
+    assert_eq!(roll_batch(&[1], 0, &[0]), Err(Refusal::Zero));
+    assert_eq!(roll_batch(&[1], 0, &[1 << 63, 3]), Err(Refusal::Product));
+    assert_eq!(roll_batch(&[1], 2, &[3]), Err(Refusal::Start));
+    assert_eq!(roll_batch(&[0], 0, &[3]), Err(Refusal::Words { batch: 0 }));
+}
+
+#[test]
+fn a_list_can_meet_2_4_6_9_10() {
+    assert_eq!(roll_list(&[1], 0, &[1; 4097], &mut [0; 4097]), Err(Refusal::Count));
+    assert_eq!(roll_list(&[1], 0, &[2, 0], &mut [0; 2]), Err(Refusal::Zero));
+    assert_eq!(roll_list(&[1], 0, &[2, 2], &mut [0; 1]), Err(Refusal::Room));
+    assert_eq!(roll_list(&[1], 2, &[2, 2], &mut [0; 2]), Err(Refusal::Start));
+    assert_eq!(roll_list(&[1], 0, &[1; 17], &mut [0; 17]), Err(Refusal::Words { batch: 1 }));
+}
+
+#[test]
+fn words_behind_rolls_can_meet_2_4_5_7() {
+    assert_eq!(words_behind(&[], &[]), Err(Refusal::Count));
+    assert_eq!(words_behind(&[0], &[0]), Err(Refusal::Zero));
+    assert_eq!(words_behind(&[1 << 63, 3], &[0, 0]), Err(Refusal::Product));
+    assert_eq!(words_behind(&[6], &[6]), Err(Refusal::Misfit));
+}
+
+#[test]
+fn success_returns_the_place_after_the_last_word_used_and_the_count_of_rejected_words() {
+    let mut rolls = [0; 2];
+    assert_eq!(roll_list(&[7, 0, 0, u64::MAX, 7], 1, &[6, 6], &mut rolls), Ok(Used { next: 4, rejected: 2 }));
+    assert_eq!(rolls, [5, 5]);
+}
+
+#[test]
+fn a_c_program_includes_the_header_and_links_the_library() {
+    let package = Path::new(env!("CARGO_MANIFEST_DIR"));
+    let program = Path::new(env!("CARGO_TARGET_TMPDIR")).join("c_face");
+    let built = Command::new(env::var_os("CC").unwrap_or("cc".into()))
+        .args(["-std=c11", "-Wall", "-Wextra", "-Werror", "-I"])
+        .arg(package.join("../include"))
+        .arg(package.join("tests/rules/face.c"))
+        .arg(package.join("../target/staticlib/libhildrasp.a"))
+        .arg("-o")
+        .arg(&program)
+        .status()
+        .expect("cc runs");
+    assert!(built.success(), "the C program is built");
+    let ran = built_program(&program).output().expect("the C program runs");
+    assert!(ran.status.success(), "{}", String::from_utf8_lossy(&ran.stderr));
+}

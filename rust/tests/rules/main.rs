@@ -1,0 +1,11 @@
+//! The rules of document 01, held against the proved library: each file has the rules of one operation, and each
+//! test is named by the rule that it holds. Whole answers and whole lent lists are compared.
+//!
+//! `HILDRASP_CASES=20 cargo test --release` runs twenty times the random cases of a default run.
+
+mod batch;
+mod behind;
+mod examples;
+mod face;
+mod list;
+mod support;

@@ -1,0 +1,262 @@
+//! What the tests share: a generator with fixed seeds, inputs close to the edges of the rules, lists to lend, and the
+//! comparison of the library's whole answer with the oracle's.
+
+use hildrasp::oracle::{self, plan::Plan, word};
+use hildrasp::raw::{self, Answer, Batch, Behind};
+use std::env;
+use std::path::Path;
+use std::process::Command;
+
+/// How many random cases to run, times the number in the environment variable `HILDRASP_CASES`.
+pub fn cases(default: usize) -> usize {
+    match env::var("HILDRASP_CASES") {
+        Ok(times) => default * times.parse::<usize>().expect("HILDRASP_CASES is a whole number"),
+        Err(_) => default,
+    }
+}
+
+/// A program built for x86-64: run as it is, or, where these tests themselves are run by an emulator, by the same one.
+pub fn built_program(path: &Path) -> Command {
+    match env::var_os("CARGO_TARGET_X86_64_UNKNOWN_LINUX_GNU_RUNNER") {
+        Some(emulator) => {
+            let mut command = Command::new(emulator);
+            command.arg(path);
+            command
+        }
+        None => Command::new(path),
+    }
+}
+
+/// Every choice of some of the numbers, none and all included, each in the order given.
+pub fn choices(numbers: &[u64]) -> Vec<Vec<u64>> {
+    let chosen = |set: usize| numbers.iter().enumerate().filter(move |(i, _)| set >> i & 1 == 1).map(|(_, &no)| no);
+    (0..1 << numbers.len()).map(|set| chosen(set).collect()).collect()
+}
+
+// ---- Random inputs ----
+
+/// A small generator (splitmix64): the same seed gives the same cases everywhere.
+pub struct Generator(u64);
+
+impl Generator {
+    pub fn new(seed: u64) -> Generator {
+        Generator(seed)
+    }
+
+    /// Any word.
+    pub fn word(&mut self) -> u64 {
+        self.0 = self.0.wrapping_add(0x9e37_79b9_7f4a_7c15);
+        let z = (self.0 ^ (self.0 >> 30)).wrapping_mul(0xbf58_476d_1ce4_e5b9);
+        let z = (z ^ (z >> 27)).wrapping_mul(0x94d0_49bb_1331_11eb);
+        z ^ (z >> 31)
+    }
+
+    /// A number below `end`.
+    pub fn below(&mut self, end: usize) -> usize {
+        (self.word() % end as u64) as usize
+    }
+
+    /// A number from `low` to `high`.
+    pub fn between(&mut self, low: usize, high: usize) -> usize {
+        low + self.below(high - low + 1)
+    }
+
+    /// True once in `n` times.
+    pub fn once_in(&mut self, n: usize) -> bool {
+        self.below(n) == 0
+    }
+
+    /// One of several.
+    pub fn one_of<T: Copy>(&mut self, several: &[T]) -> T {
+        several[self.below(several.len())]
+    }
+
+    /// A bound of 1 to 64 bits.
+    pub fn bound(&mut self) -> u64 {
+        (self.word() >> self.below(64)).max(1)
+    }
+
+    /// A start place for a list of `length` words: most within it, some at its end, some above.
+    pub fn start(&mut self, length: usize) -> usize {
+        match self.below(16) {
+            0 => length + 1,
+            1 => usize::MAX - self.below(2),
+            2 => length,
+            3..=6 => self.below(length + 1),
+            _ => 0,
+        }
+    }
+
+    /// Bounds whose product is close to `limit`, below it, at it or above it.
+    pub fn bounds_close_to(&mut self, limit: u128) -> Vec<u64> {
+        let mut bounds = Vec::new();
+        let mut rest = limit;
+        for _ in 0..self.below(16) {
+            let bound = self.one_of(&[1, 2, 3, 4, 5, 16, 257, 641, 65_537, 1 << 20, 1 << 32]);
+            if rest / u128::from(bound) == 0 {
+                break;
+            }
+            bounds.push(bound);
+            rest /= u128::from(bound);
+        }
+        let last = rest + self.one_of(&[0, 0, 1, 2]) - self.one_of(&[0, 0, 1]);
+        let place = self.below(bounds.len() + 1);
+        bounds.insert(place, last.clamp(1, u64::MAX.into()) as u64);
+        bounds
+    }
+
+    /// Bounds that are powers of two, with product 2^`bits`.
+    pub fn powers_of_two(&mut self, bits: u32) -> Vec<u64> {
+        let mut bounds = vec![1; self.between(2, 16)];
+        for _ in 0..bits {
+            let place = self.below(bounds.len());
+            bounds[place] = if bounds[place] < 1 << 63 { bounds[place] * 2 } else { bounds[place] };
+        }
+        bounds
+    }
+
+    /// Bounds for one batch: most are allowed, many have a product close to a limit, some are to be refused.
+    pub fn bounds(&mut self) -> Vec<u64> {
+        match self.below(8) {
+            0 => (0..self.between(1, 16)).map(|_| self.between(1, 10) as u64).collect(),
+            1 => {
+                let bits = self.one_of(&[55, 56, 57, 63, 64, 64, 65]);
+                self.powers_of_two(bits)
+            }
+            2 => self.bounds_close_to(1 << 56),
+            3 => {
+                let often_rejecting = (1 << 63) + u128::from(self.word() >> 2);
+                self.bounds_close_to(often_rejecting)
+            }
+            4 => self.bounds_close_to(1 << 63),
+            5 => self.bounds_close_to(1 << 64),
+            6 => (0..self.below(4)).map(|_| self.bound()).collect(),
+            _ => (0..self.below(19)).map(|_| self.below(6) as u64).collect(),
+        }
+    }
+
+    /// A word for a batch with product b: any, a small one, or one at the edge of acceptance. At the edge between two
+    /// series of rolls stands the word 2^64 a / b, rounded up, and it or the one after it is the first accepted.
+    pub fn word_for(&mut self, b: u128) -> u64 {
+        let b = b.clamp(1, 1 << 64);
+        match self.below(8) {
+            0 => self.word(),
+            1 => self.below(3) as u64,
+            2 => u64::MAX - self.below(3) as u64,
+            _ => {
+                let a = u128::from(self.word()) % b;
+                let edge = (a << 64).div_ceil(b) as u64;
+                edge.wrapping_add(self.one_of(&[0, 0, 0, 1, u64::MAX]))
+            }
+        }
+    }
+
+    /// Words for a plan, none of whose bounds is 0: for each batch words at its edges up to the first accepted one.
+    pub fn words_for_plan(&mut self, plan: &Plan) -> Vec<u64> {
+        let mut words = Vec::new();
+        for bounds in plan {
+            loop {
+                let word = self.word_for(word::product(bounds));
+                words.push(word);
+                if word::accepted(word::L, bounds, word) {
+                    break;
+                }
+            }
+        }
+        words
+    }
+}
+
+// ---- Lent lists ----
+
+/// A list to lend, all its places different, between two guards that belong to nobody.
+#[derive(Debug, Clone, PartialEq, Eq)]
+pub struct Lent<T> {
+    all: Vec<T>,
+}
+
+const GUARD: usize = 20;
+
+impl<T: From<u32>> Lent<T> {
+    pub fn with_room(room: usize) -> Lent<T> {
+        let mark = |place| T::from(0xa5a5_0000 + place as u32);
+        Lent { all: (0..room + 2 * GUARD).map(mark).collect() }
+    }
+}
+
+impl<T> Lent<T> {
+    pub fn lend(&mut self) -> &mut [T] {
+        let end = self.all.len() - GUARD;
+        &mut self.all[GUARD..end]
+    }
+}
+
+impl<T: From<u32> + Copy> Lent<T> {
+    /// The list that has these values in front and is else as it was.
+    pub fn holding(room: usize, values: &[T]) -> Lent<T> {
+        let mut lent = Lent::with_room(room);
+        lent.lend()[..values.len()].copy_from_slice(values);
+        lent
+    }
+}
+
+// ---- The library beside the oracle ----
+
+/// Rolls one batch by the library, and by the oracle with the same answer.
+pub fn roll_batch(words: &[u64], start: usize, bounds: &[u64]) -> Batch {
+    let answer = raw::roll_batch(words, start, bounds);
+    let wanted = oracle::roll_batch(words, start, bounds);
+    assert_eq!(answer, wanted, "words {words:?}, start {start}, bounds {bounds:?}");
+    answer
+}
+
+/// Rolls a list of bounds by the library, and by the oracle with the same answer and the same lent list.
+pub fn roll_list(words: &[u64], start: usize, bounds: &[u64], room: usize) -> (Answer, Lent<u64>) {
+    let (mut lent, mut wanted_lent) = (Lent::with_room(room), Lent::with_room(room));
+    let answer = raw::roll_list(words, start, bounds, lent.lend());
+    let wanted = oracle::roll_list(words, start, bounds, wanted_lent.lend());
+    assert_eq!(answer, wanted, "words {words:?}, start {start}, bounds {bounds:?}, room {room}");
+    assert_eq!(lent, wanted_lent, "words {words:?}, start {start}, bounds {bounds:?}, room {room}");
+    (answer, lent)
+}
+
+/// Names the words behind rolls by the library, and by the oracle with the same answer.
+pub fn words_behind(bounds: &[u64], rolls: &[u64]) -> Behind {
+    let answer = raw::words_behind(bounds, rolls);
+    assert_eq!(answer, oracle::words_behind(bounds, rolls), "bounds {bounds:?}, rolls {rolls:?}");
+    answer
+}
+
+// ---- Answers written out ----
+
+/// A batch that gave these rolls.
+pub fn rolled(next: usize, rejected: usize, rolls: &[u64]) -> Batch {
+    let mut sixteen = [0; 16];
+    sixteen[..rolls.len()].copy_from_slice(rolls);
+    Batch { no: 0, next, rejected, count: rolls.len(), rolls: sixteen }
+}
+
+/// A batch that was refused: its number, the start place as given, zeros elsewhere.
+pub fn batch_refused(no: u64, start: usize) -> Batch {
+    Batch { no, next: start, rejected: 0, count: 0, rolls: [0; 16] }
+}
+
+/// A call with a lent list that was not refused.
+pub fn done(next: usize, rejected: usize) -> Answer {
+    Answer { no: 0, next, rejected, batch: 0 }
+}
+
+/// A call with a lent list that was refused.
+pub fn refused(no: u64, start: usize, batch: usize) -> Answer {
+    Answer { no, next: start, rejected: 0, batch }
+}
+
+/// A run of words.
+pub fn behind(first: u64, last: u64) -> Behind {
+    Behind { no: 0, next: 0, rejected: 0, first, last }
+}
+
+/// A way back that was refused.
+pub fn behind_refused(no: u64) -> Behind {
+    Behind { no, next: 0, rejected: 0, first: 0, last: 0 }
+}
