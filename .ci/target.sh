@@ -7,7 +7,7 @@ if [ "$(uname -m)" != x86_64 ]; then
         apt-get update -qq
         DEBIAN_FRONTEND=noninteractive apt-get install -y -qq --no-install-recommends $packages >/dev/null
     fi
-    export RUSTC=/usr/bin/rustc CC=x86_64-linux-gnu-gcc
+    export RUSTC=/usr/bin/rustc RUSTDOC=/usr/bin/rustdoc CC=x86_64-linux-gnu-gcc
     export CARGO_BUILD_TARGET=x86_64-unknown-linux-gnu
     export CARGO_TARGET_X86_64_UNKNOWN_LINUX_GNU_LINKER=x86_64-linux-gnu-gcc
     export CARGO_TARGET_X86_64_UNKNOWN_LINUX_GNU_RUNNER=qemu-x86_64

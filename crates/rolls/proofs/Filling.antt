@@ -9,31 +9,15 @@ use borrow.Rule.Slice.PartMut.{putMid}
 use Rattle.arithmetic.specs.Rolls.{rolls, threshold, accepted}
 use Rattle.arithmetic.specs.Products.{hasZero}
 use Rattle.arithmetic.proofs.Rolls.{rolls-length}
-use Rattle.rolls.specs.Run.{Taken, Found, found, missing, find, Run, ran, short, after, trace, runFrom, run, rollsOf}
+use Rattle.rolls.specs.Run.{Taken, Found, found, missing, find, Run, runFrom, run, rollsOf}
 use Rattle.rolls.specs.Cut.{joins, cutFrom, cut}
 use Rattle.rolls.specs.Inner.{passes, searched, suffices, cutAt}
 use Rattle.rolls.specs.declared.cut.Cut.{Cut}
 use Rattle.rolls.specs.declared.search.Search.the-variants.{Hit, Missing}
 use Rattle.rolls.proofs.Cutting.{part}
-use Rattle.rolls.proofs.Finding.{find-within, searched-hit, searched-missing}
-use Rattle.rolls.proofs.Listing.{batchAt, batch-some, batch-within, batch-rest, batch-part, cut-end, cut-find}
-use Rattle.rolls.proofs.Running.{run-hit, run-missing}
+use Rattle.rolls.proofs.Listing.{batchAt, batch-within, batch-rest, batch-part, cut-end, cut-find}
+use Rattle.rolls.proofs.Running.{rolledBy, hit-suffices, hit-rolled, hit-within, never-missing}
 use Rattle.rolls.proofs.Writing.{wrote, wrote-front, wrote-back, wrote-length, lent, drop-more}
-
--- ---- a run that suffices, one batch on
-
-abbrev pub rolledBy : ℕ → List (List ℕ) → Run → List ℕ
-rolledBy L plan r = rollsOf L plan (trace r)
-
-after-suffices : (t : Taken) (r : Run) → suffices (after t r) ≡ suffices r
-after-suffices t (ran ts) = refl
-after-suffices t (short k) = refl
-
-after-rolled : (L : ℕ) (bs : List ℕ) (plan : List (List ℕ)) (t : Taken) (r : Run) → suffices r ≡ true
-    → rolledBy L (bs ∷ plan) (after t r) ≡ rolls L bs (t .word) ++ rolledBy L plan r
-unfolding rollsOf
-after-rolled L bs plan t (ran ts) e = refl
-after-rolled L bs plan t (short k) e = absurd (let z : _≡_ {A = ℕ} 0 1 = cc in let n : ⊥ = omega arith in n)
 
 -- ---- the loop
 
@@ -61,13 +45,7 @@ module _ (words : List ℕ) (start : ℕ) (bs out₀ out : List ℕ) (to at : �
     same = cut-find bs at h z c e t f g (drop to words) to
 
     pub fill-never : searched to (find (passes (c .product) t) (drop to words) to) ≡ Missing → ⊥
-    fill-never s =
-        let k : left words bs at to (v .4 .0) ≡ short (v .4 .0)
-        = ap (λ (p : List (List ℕ)). runFrom 64 p words to (v .4 .0)) (batch-rest bs at h)
-        ∙ run-missing 64 (batchAt bs at) _ words to (v .4 .0) (sym same ∙ searched-missing to _ s) in
-        let z : _≡_ {A = Bool} false true = sym (ap suffices k) ∙ v .4 .1 in
-        let n : _≡_ {A = ℕ} 0 1 = cc in
-        omega arith
+    fill-never s = never-missing 64 (batchAt bs at) _ words to (v .4 .0) _ same s (rw (batch-rest bs at h) at (v .4 .1))
 
     pub fill-turn : (w place m : ℕ) → searched to (find (passes (c .product) t) (drop to words) to) ≡ Hit w place m → length bs ≤ length out₀
         → (last : List ℕ) → last ≡ rolls 64 (part bs at (c .end)) w ++ drop (length (part bs at (c .end))) (take (length out - at) (drop at out))
@@ -75,31 +53,22 @@ module _ (words : List ℕ) (start : ℕ) (bs out₀ out : List ℕ) (to at : �
     fill-turn w place m s room last l =
         let batch : List ℕ = batchAt bs at in
         let d : List ℕ = rolls 64 batch w in
-        let o = searched-hit to _ w place m s in
         let n : length d ≡ length batch = rolls-length 64 batch w in
         let end : c .end ≡ at + length d = cut-end bs at h z c e ∙ ap (λ (k : ℕ). at + k) (sym n) in
         let p : part bs at (c .end) ≡ batch = rw (cut-end bs at h z c e) (sym (batch-part bs at h)) in
         let fits : at + length d ≤ length out = omega (arith, n, batch-within bs at h, room, v .2) in
         let wrote-d = lent out d at fits last (rw (p, ← n) at l) in
-        let rest : cut (2 ^ 56) (drop at bs) ≡ batch ∷ cut (2 ^ 56) (drop (at + length d) bs) = rw n (batch-rest bs at h) in
-        let on : Run = runFrom 64 (cut (2 ^ 56) (drop (at + length d) bs)) words (place + 1) (v .4 .0 + 1) in
-        let step : left words bs at to (v .4 .0) ≡ after (record { place = place; word = w }) on
-        = ap (λ (q : List (List ℕ)). runFrom 64 q words to (v .4 .0)) rest ∙ run-hit 64 batch _ words to (v .4 .0) (sym same ∙ o .0) in
-        let enough : suffices on ≡ true = sym (after-suffices _ on) ∙ sym (ap suffices step) ∙ v .4 .1 in
-        rw (wrote-d, end) (
-          omega (arith, find-within _ words to (v .0) (o .0)),
-          omega (arith, n, batch-within bs at h),
-          wrote-length out d at fits ∙ v .2,
-          wrote-back out d at fits ∙ drop-more out out₀ at (length d) (v .3),
-          (
-            v .4 .0 + 1,
-            enough,
-            ap (λ (x : List ℕ). x ++ rolledBy 64 (cut (2 ^ 56) (drop (at + length d) bs)) on) (wrote-front out d at fits)
-                ∙ append-assoc (take at out) d _
-                ∙ ap (λ (x : List ℕ). take at out ++ x) (sym (after-rolled 64 batch _ _ on enough) ∙ sym (ap₂ (rolledBy 64) rest step))
-                ∙ v .4 .2,
-          ),
-        )
+        let plan : List (List ℕ) = cut (2 ^ 56) (drop (at + length d) bs) in
+        let rest : cut (2 ^ 56) (drop at bs) ≡ batch ∷ plan = rw n (batch-rest bs at h) in
+        let k : suffices (runFrom 64 (batch ∷ plan) words to (v .4 .0)) ≡ true = rw rest at (v .4 .1) in
+        rw (wrote-d, end)
+        (omega (arith, hit-within 64 batch plan words to (v .4 .0) _ same w place m s (v .0)), omega (arith, n, batch-within bs at h),
+        wrote-length out d at fits ∙ v .2, wrote-back out d at fits ∙ drop-more out out₀ at (length d) (v .3),
+        (v .4 .0 + 1, hit-suffices 64 batch plan words to (v .4 .0) _ same w place m s k,
+        ap (λ (x : List ℕ). x ++ rolledBy 64 plan (runFrom 64 plan words (place + 1) (v .4 .0 + 1))) (wrote-front out d at fits)
+        ∙ append-assoc (take at out) d _
+        ∙ ap (λ (x : List ℕ). take at out ++ x) (sym (hit-rolled 64 batch plan words to (v .4 .0) _ same w place m s k))
+        ∙ (rw rest at (v .4 .2))))
 
   pub fill-done : length bs ≤ at → out ≡ whole words bs start ++ drop (length bs) out₀
   unfolding cut runFrom rollsOf
@@ -143,14 +112,10 @@ rolled-total L (bs ∷ plan) words start batch e = go (find (accepted L bs) (dro
         → length (rolledBy L plan (runFrom L plan words (t .place + 1) (batch + 1))) ≡ total plan)
         → length (rolledBy L (bs ∷ plan) (runFrom L (bs ∷ plan) words start batch)) ≡ length bs + total plan
     go (found t) f s ih =
-        let on : Run = runFrom L plan words (t .place + 1) (batch + 1) in
-        let r : runFrom L (bs ∷ plan) words start batch ≡ after t on = run-hit L bs plan words start batch f in
-        let enough : suffices on ≡ true = sym (after-suffices t on) ∙ sym (ap suffices r) ∙ s in
-        ap (λ (x : Run). length (rolledBy L (bs ∷ plan) x)) r ∙ ap length (after-rolled L bs plan t on enough)
-        ∙ length-append (rolls L bs (t .word)) (rolledBy L plan on) ∙ ap₂ _+_ (rolls-length L bs (t .word)) (ih t enough)
-    go missing f s ih =
-        let z : _≡_ {A = Bool} false true = sym (ap suffices (run-missing L bs plan words start batch f)) ∙ s in
-        absurd (let n : _≡_ {A = ℕ} 0 1 = cc in let m : ⊥ = omega arith in m)
+        ap length (hit-rolled L bs plan words start batch (found t) (sym f) (t .word) (t .place) _ refl s)
+        ∙ length-append (rolls L bs (t .word)) _
+        ∙ ap₂ _+_ (rolls-length L bs (t .word)) (ih t (hit-suffices L bs plan words start batch (found t) (sym f) (t .word) (t .place) _ refl s))
+    go missing f s ih = absurd (never-missing L bs plan words start batch missing (sym f) refl s)
 
 pub list-length : (L limit : ℕ) (bs words : List ℕ) (start : ℕ) → suffices (run L (cut limit bs) words start) ≡ true
     → length (rolledBy L (cut limit bs) (run L (cut limit bs) words start)) ≡ length bs

@@ -1,14 +1,23 @@
 -- The run over a plan, batch by batch, over every width. Assumes nothing.
-use mathlib.Core.Path.{_≡_, refl, sym, ap, ap₂, _∙_, subst}
+--
+--   run-hit, run-missing                    the next batch got a word, or none
+--   finish                                  whether the words suffice, of a run that is begun
+--   rolledBy                                the rolls of a run
+--   finish-hit, hit-suffices, hit-rolled    one batch on, by the answer of the search
+--   finish-missing, never-missing           no word is left
+use mathlib.Core.Path.{_≡_, refl, sym, ap, _∙_}
+use mathlib.Core.Bool.{Bool, true, false}
 use mathlib.Core.List.{List, [], _∷_, _++_}
-use Prim.Native.Nat.{ℕ, _+_, _-_, _*_, _^_, _<_, _≤_}
+use Prim.Native.Nat.{ℕ, _+_, _-_, _<_, _≤_}
 use native.Mathlib.Omega.{arith}
-use lib.ListN.{length, drop, drop-of-length-le}
-use Rattle.arithmetic.specs.Rolls.{accepted}
-use Rattle.rolls.specs.Run.{Taken, Found, found, missing, find, Run, ran, short, after, runFrom, run, rollsOf, next, rejected}
-use Rattle.rolls.specs.Inner.{supplied}
+use lib.ListN.{length, drop}
+use Rattle.arithmetic.specs.Rolls.{rolls, accepted}
+use Rattle.rolls.specs.Run.{Taken, Found, found, missing, find, Run, ran, short, after, trace, runFrom, rollsOf, next, rejected}
+use Rattle.rolls.specs.Inner.{searched, supplied, suffices}
+use Rattle.rolls.specs.declared.search.Search.the-variants.{Hit, Missing}
 use Rattle.rolls.specs.declared.supply.Supply.{Supply}
 use Rattle.rolls.specs.declared.supply.Supply.the-variants.{Enough, Short}
+use Rattle.rolls.proofs.Finding.{find-within, searched-hit, searched-missing}
 
 module _ (L : ℕ) (bs : List ℕ) (plan : List (List ℕ)) (words : List ℕ) (start batch : ℕ) where
   pub run-hit : {t : Taken} → find (accepted L bs) (drop start words) start ≡ found t
@@ -22,7 +31,7 @@ module _ (L : ℕ) (bs : List ℕ) (plan : List (List ℕ)) (words : List ℕ) (
 
 -- ---- whether the words suffice
 
--- with r words rejected so far, and the run that is left, from the place next on
+-- with r words rejected so far, and the run that is left, from the place at on
 abbrev pub finish : ℕ → ℕ → Run → Supply
 finish at r (ran ts) = Enough (next at ts) (r + rejected at ts)
 finish at r (short batch) = Short batch
@@ -31,7 +40,77 @@ pub finish-none : (start : ℕ) (w : Run) → finish start 0 w ≡ supplied star
 finish-none start (ran ts) = ap (λ (n : ℕ). Enough (next start ts) n) (omega arith)
 finish-none start (short batch) = refl
 
-pub finish-after : (at r : ℕ) (t : Taken) (w : Run) → finish at r (after t w) ≡ finish (t .place + 1) (r + (t .place - at)) w
+finish-after : (at r : ℕ) (t : Taken) (w : Run) → finish at r (after t w) ≡ finish (t .place + 1) (r + (t .place - at)) w
 unfolding next rejected
 finish-after at r t (ran ts) = ap (λ (n : ℕ). Enough (next (t .place + 1) ts) n) (omega arith)
 finish-after at r t (short batch) = refl
+
+-- ---- the rolls of a run that suffices
+
+abbrev pub rolledBy : ℕ → List (List ℕ) → Run → List ℕ
+rolledBy L plan r = rollsOf L plan (trace r)
+
+after-suffices : (t : Taken) (r : Run) → suffices (after t r) ≡ suffices r
+after-suffices t (ran ts) = refl
+after-suffices t (short k) = refl
+
+after-rolled : (L : ℕ) (bs : List ℕ) (plan : List (List ℕ)) (t : Taken) (r : Run) → suffices r ≡ true
+    → rolledBy L (bs ∷ plan) (after t r) ≡ rolls L bs (t .word) ++ rolledBy L plan r
+unfolding rollsOf
+after-rolled L bs plan t (ran ts) e = refl
+after-rolled L bs plan t (short k) e = absurd (let z : _≡_ {A = ℕ} 0 1 = cc in let n : ⊥ = omega arith in n)
+
+-- ---- one batch, by the answer of the search for its word
+
+module _ (L : ℕ) (bs : List ℕ) (plan : List (List ℕ)) (words : List ℕ) (start batch : ℕ) where
+  whole : Run
+  whole = runFrom L (bs ∷ plan) words start batch
+
+  module _ (f : Found) (e : f ≡ find (accepted L bs) (drop start words) start) where
+    module _ (s : searched start f ≡ Missing) where
+      ends : whole ≡ short batch
+      unfolding whole
+      ends = run-missing L bs plan words start batch (sym e ∙ searched-missing start f s)
+
+      pub finish-missing : (r : ℕ) → finish start r (runFrom L (bs ∷ plan) words start batch) ≡ Short batch
+      unfolding whole
+      finish-missing r = ap (finish start r) ends
+
+      pub never-missing : suffices (runFrom L (bs ∷ plan) words start batch) ≡ true → ⊥
+      unfolding whole
+      never-missing k =
+          let z : _≡_ {A = Bool} false true = sym (ap suffices ends) ∙ k in
+          let n : _≡_ {A = ℕ} 0 1 = cc in
+          omega arith
+
+    module _ (w place m : ℕ) (s : searched start f ≡ Hit w place m) where
+      later : Run
+      later = runFrom L plan words (place + 1) (batch + 1)
+
+      goes-on : whole ≡ after (record { place = place; word = w }) later
+      unfolding whole later
+      goes-on = run-hit L bs plan words start batch (sym e ∙ searched-hit start f w place m s .0)
+
+      pub finish-hit : (r : ℕ)
+          → finish start r (runFrom L (bs ∷ plan) words start batch) ≡ finish (place + 1) (r + m) (runFrom L plan words (place + 1) (batch + 1))
+      unfolding whole later
+      finish-hit r =
+          ap (finish start r) goes-on ∙ finish-after start r (record { place = place; word = w }) later
+          ∙ ap (λ (n : ℕ). finish (place + 1) (r + n) later) (sym (searched-hit start f w place m s .1))
+
+      pub hit-suffices : suffices (runFrom L (bs ∷ plan) words start batch) ≡ true → suffices (runFrom L plan words (place + 1) (batch + 1)) ≡ true
+      unfolding whole later
+      hit-suffices k = sym (after-suffices (record { place = place; word = w }) later) ∙ sym (ap suffices goes-on) ∙ k
+
+      pub hit-rolled : suffices (runFrom L (bs ∷ plan) words start batch) ≡ true
+          → rolledBy L (bs ∷ plan) (runFrom L (bs ∷ plan) words start batch)
+          ≡ rolls L bs w ++ rolledBy L plan (runFrom L plan words (place + 1) (batch + 1))
+      unfolding whole later
+      hit-rolled k =
+          ap (rolledBy L (bs ∷ plan)) goes-on ∙ after-rolled L bs plan (record { place = place; word = w }) later (hit-suffices k)
+
+      pub hit-passed : m ≡ place - start
+      hit-passed = searched-hit start f w place m s .1
+
+      pub hit-within : start ≤ length words → (start ≤ place) × (place < length words)
+      hit-within h = find-within (accepted L bs) words start h (sym e ∙ searched-hit start f w place m s .0)

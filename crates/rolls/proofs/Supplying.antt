@@ -1,7 +1,7 @@
 -- Whether the words suffice for a list of bounds: the loop of `supply_list`. Assumes nothing.
 use mathlib.Core.Path.{_≡_, refl, sym, ap, _∙_}
 use mathlib.Core.Bool.{false}
-use mathlib.Core.List.{List, []}
+use mathlib.Core.List.{List, [], _∷_}
 use Prim.Native.Nat.{ℕ, _+_, _-_, _^_, _<_, _≤_}
 use native.Mathlib.Omega.{arith}
 use lib.ListN.{length, drop, drop-of-length-le}
@@ -14,9 +14,8 @@ use Rattle.rolls.specs.declared.cut.Cut.{Cut}
 use Rattle.rolls.specs.declared.search.Search.the-variants.{Hit, Missing}
 use Rattle.rolls.specs.declared.supply.Supply.{Supply}
 use Rattle.rolls.specs.declared.supply.Supply.the-variants.{Enough, Short}
-use Rattle.rolls.proofs.Finding.{find-within, searched-hit, searched-missing}
-use Rattle.rolls.proofs.Listing.{batchAt, batch-some, batch-within, batch-rest, cut-end, cut-find}
-use Rattle.rolls.proofs.Running.{run-hit, run-missing, finish, finish-none, finish-after}
+use Rattle.rolls.proofs.Listing.{batchAt, batch-rest, cut-end, cut-place, cut-find}
+use Rattle.rolls.proofs.Running.{finish, finish-none, finish-hit, finish-missing, hit-passed, hit-within}
 
 -- the batches before the bound at `at` have their words, and the rest of the run starts at `to`
 abbrev pub Supplying : List ℕ → ℕ → List ℕ → ℕ → ℕ → ℕ → ℕ → Type 0
@@ -33,28 +32,26 @@ module _ (words : List ℕ) (start : ℕ) (bs : List ℕ) (to r batch at : ℕ) 
     same : find (passes (c .product) t) (drop to words) to ≡ find (accepted 64 (batchAt bs at)) (drop to words) to
     same = cut-find bs at h z c e t f g (drop to words) to
 
+    plan-here : cut (2 ^ 56) (drop at bs) ≡ batchAt bs at ∷ cut (2 ^ 56) (drop (c .end) bs)
+    plan-here = rw (cut-end bs at h z c e) (batch-rest bs at h)
+
     pub supply-hit : (w place m : ℕ) → searched to (find (passes (c .product) t) (drop to words) to) ≡ Hit w place m
         → Supplying words start bs (place + 1) (r + m) (batch + 1) (c .end)
     supply-hit w place m s =
-        let o = searched-hit to _ w place m s in
-        let b = find-within _ words to (v .0) (o .0) in
-        let i = cut-end bs at h z c e in (
-          omega (arith, b),
-          rw i (batch-within bs at h),
-          omega (arith, o .1, b),
-          rw i (omega (arith, batch-some bs at h)),
-          rw (i, o .1)
-              (sym (ap (λ (plan : List (List ℕ)). finish to r (runFrom 64 plan words to batch)) (batch-rest bs at h)
-              ∙ ap (finish to r) (run-hit 64 (batchAt bs at) _ words to batch (sym same ∙ o .0))
-              ∙ finish-after to r (record { place = place; word = w }) (runFrom 64 (cut (2 ^ 56) (drop (at + length (batchAt bs at)) bs)) words (place + 1) (batch + 1)))
-              ∙ v .4),
-        )
+        let plan : List (List ℕ) = cut (2 ^ 56) (drop (c .end) bs) in
+        let b = hit-within 64 (batchAt bs at) plan words to batch _ same w place m s (v .0) in
+        let n = hit-passed 64 (batchAt bs at) plan words to batch _ same w place m s in
+        let p = cut-place bs at h z c e in
+        (omega (arith, b), p .1, omega (arith, b, n), omega (arith, p .0),
+        sym (ap (λ (plan : List (List ℕ)). finish to r (runFrom 64 plan words to batch)) plan-here
+        ∙ finish-hit 64 (batchAt bs at) _ words to batch _ same w place m s r)
+        ∙ v .4)
 
     pub supply-short : searched to (find (passes (c .product) t) (drop to words) to) ≡ Missing
         → Short batch ≡ supplied start (run 64 (cut (2 ^ 56) bs) words start)
     supply-short s =
-        sym (ap (λ (plan : List (List ℕ)). finish to r (runFrom 64 plan words to batch)) (batch-rest bs at h)
-        ∙ ap (finish to r) (run-missing 64 (batchAt bs at) _ words to batch (sym same ∙ searched-missing to _ s)))
+        sym (ap (λ (plan : List (List ℕ)). finish to r (runFrom 64 plan words to batch)) plan-here
+        ∙ finish-missing 64 (batchAt bs at) _ words to batch _ same s r)
         ∙ v .4
 
   pub supply-done : length bs ≤ at → Enough to r ≡ supplied start (run 64 (cut (2 ^ 56) bs) words start)

@@ -1,0 +1,267 @@
+-- Orders of different records and series of rolls: each series in range gives an order, and each order comes from one series, the
+-- one that is looked up. The batches play no part: a shuffle is one flat series with the bounds n, n - 1, .., 2. Assumes nothing.
+--
+--   length-exchange, exchange-last, exchange-first, exchange-other    what stands where after an exchange
+--   place-of                        the place of a record that stands at one place
+--   range-cons                      one roll in range of a shuffle's bounds
+--   length-shuffle                  a shuffle keeps the number of records
+--   rolls-into-step                 one roll behind an order
+--   shuffle-reorders                each series of rolls in range gives an order of the records
+--   one-series                      for each order the rolls looked up, and no others in range, give it
+use mathlib.Core.Path.{_≡_, refl, sym, ap, ap₂, _∙_, subst}
+use mathlib.Core.Logic.{_↔_, _≢_}
+use mathlib.Core.Bool.{Bool, true, false}
+use mathlib.Core.List.{List, [], _∷_}
+use Prim.Native.Nat.{ℕ, zero, suc, _-_, _<_, _≤_}
+use native.Mathlib.Nat.{le-of-suc-le-suc, not-suc-le-zero, le-refl}
+use native.Mathlib.Numerals.{add-one}
+use native.Mathlib.Decide.{ℕ-discrete, decLt}
+use native.Mathlib.Omega.{arith}
+use lib.Dec.{T, eqb}
+use lib.ListN.{length, getD, set, length-set}
+use lib.Seq.{getD-set-same, getD-set-other, lt-length-set, ext-getD}
+use borrow.Author.Tests.{eqb-true, eqb-false}
+use Rattle.arithmetic.specs.Rolls.{inRange}
+use Rattle.arithmetic.proofs.Rolls.{in-range-cons}
+use Rattle.draws.specs.Shuffle.{exchange, shuffleWith, shuffleBounds}
+use Rattle.draws.specs.Order.{placeOf, rollsInto, Distinct, Among, Reorders, Only}
+use Rattle.draws.proofs.Plans.{no-bounds, bounds-cons}
+
+-- ---- an exchange
+
+pub length-exchange : (xs : List ℕ) (i j : ℕ) → length (exchange xs i j) ≡ length xs
+unfolding exchange
+length-exchange xs i j = simp length-set
+
+pub exchange-last : (xs : List ℕ) (i j : ℕ) → j < length xs → getD (exchange xs i j) j 0 ≡ getD xs i 0
+unfolding exchange
+exchange-last xs i j h = getD-set-same (set xs i (getD xs j 0)) j (getD xs i 0) 0 (lt-length-set xs i (getD xs j 0) h)
+
+pub exchange-first : (xs : List ℕ) (i j : ℕ) → i < length xs → getD (exchange xs i j) i 0 ≡ getD xs j 0
+unfolding exchange
+exchange-first xs i j h = go (ℕ-discrete i j)
+  where
+    go : Dec (i ≡ j) → getD (exchange xs i j) i 0 ≡ getD xs j 0
+    go (yes e) = rw (← e) (exchange-last xs i i h)
+    go (no e) = getD-set-other (set xs i (getD xs j 0)) j i (getD xs i 0) 0 e ∙ getD-set-same xs i (getD xs j 0) 0 h
+
+pub exchange-other : (xs : List ℕ) (i j k : ℕ) → k ≢ i → k ≢ j → getD (exchange xs i j) k 0 ≡ getD xs k 0
+unfolding exchange
+exchange-other xs i j k m n = getD-set-other (set xs i (getD xs j 0)) j k (getD xs i 0) 0 n ∙ getD-set-other xs i k (getD xs j 0) 0 m
+
+-- where the record that stands at place k after the exchange stood before it; and that this goes both ways
+record Moved (xs : List ℕ) (i j k : ℕ) : Type 0 where
+  from : ℕ
+  fits : from < length xs
+  same : getD (exchange xs i j) k 0 ≡ getD xs from 0
+  back : getD (exchange xs i j) from 0 ≡ getD xs k 0
+
+module _ (xs : List ℕ) (i j : ℕ) (hi : i < length xs) (hj : j < length xs) where
+  moved : (k : ℕ) → k < length xs → Moved xs i j k
+  moved k hk = go (ℕ-discrete k j) (ℕ-discrete k i)
+    where
+      go : Dec (k ≡ j) → Dec (k ≡ i) → Moved xs i j k
+      go (yes e) d = record { from = i; fits = hi; same = rw e (exchange-last xs i j hj); back = rw e (exchange-first xs i j hi) }
+      go (no e) (yes f) = record { from = j; fits = hj; same = rw f (exchange-first xs i j hi); back = rw f (exchange-last xs i j hj) }
+      go (no e) (no f) = record { from = k; fits = hk; same = exchange-other xs i j k f e; back = exchange-other xs i j k f e }
+
+  among-before : (x : ℕ) → Among x (exchange xs i j) → Among x xs
+  among-before x (p, h, e) =
+      let w = moved p (rw length-exchange at h) in
+      (w .from, w .fits, sym (w .same) ∙ e)
+
+  among-after : (x : ℕ) → Among x xs → Among x (exchange xs i j)
+  among-after x (p, h, e) =
+      let w = moved p h in
+      (w .from, rw length-exchange (w .fits), w .back ∙ e)
+
+  exchange-distinct : Distinct xs → Distinct (exchange xs i j)
+  exchange-distinct d k l hk hl e =
+      let fk : k < length xs = rw length-exchange at hk in
+      let fl : l < length xs = rw length-exchange at hl in
+      let u = moved k fk in
+      let v = moved l fl in
+      let one : u .from ≡ v .from = d (u .from) (v .from) (u .fits) (v .fits) (sym (u .same) ∙ e ∙ v .same) in
+      d k l fk fl (sym (u .back) ∙ ap (λ (n : ℕ). getD (exchange xs i j) n 0) one ∙ v .back)
+
+-- ---- the place of a record
+
+place-at : (x : ℕ) (xs : List ℕ) → Among x xs → (placeOf x xs < length xs) × (getD xs (placeOf x xs) 0 ≡ x)
+unfolding placeOf
+place-at x [] a = absurd (not-suc-le-zero (a .1))
+place-at x (y ∷ ys) a = go (eqb x y) refl (place-at x ys) (a .0) (a .1) (a .2)
+  where
+    go : (b : Bool) → eqb x y ≡ b → (Among x ys → (placeOf x ys < length ys) × (getD ys (placeOf x ys) 0 ≡ x))
+        → (p : ℕ) → p < length (y ∷ ys) → getD (y ∷ ys) p 0 ≡ x
+        → (placeOf x (y ∷ ys) < length (y ∷ ys)) × (getD (y ∷ ys) (placeOf x (y ∷ ys)) 0 ≡ x)
+    go true t ih p h e = rw (t, placeOf) (omega arith, sym (eqb-true x y t))
+    go false t ih zero h e = absurd (eqb-false x y t (sym e))
+    go false t ih (suc p) h e = let r = ih (p, le-of-suc-le-suc h, e) in rw (t, placeOf, add-one) (omega arith, r .1)
+
+pub place-of : (xs : List ℕ) (p : ℕ) → Distinct xs → p < length xs → placeOf (getD xs p 0) xs ≡ p
+place-of xs p d h =
+    let a = place-at (getD xs p 0) xs (p, h, refl) in
+    d (placeOf (getD xs p 0) xs) p (a .0) h (a .1)
+
+-- ---- one roll of a shuffle
+
+-- a roll in range means that there was a record to place
+pub range-cons : (m r : ℕ) (rs : List ℕ)
+    → T (inRange (shuffleBounds m) (r ∷ rs)) ↔ ((1 < m) × (r < m) × T (inRange (shuffleBounds (m - 1)) rs))
+range-cons m r rs = (to (decLt 1 m), λ (l, h, i). rw (bounds-cons m l) (in-range-cons m (shuffleBounds (m - 1)) r rs .1 (h, i)))
+  where
+    to : Dec (1 < m) → T (inRange (shuffleBounds m) (r ∷ rs)) → (1 < m) × (r < m) × T (inRange (shuffleBounds (m - 1)) rs)
+    to (yes l) i = let b = in-range-cons m (shuffleBounds (m - 1)) r rs .0 (rw (bounds-cons m l) at i) in (l, b .0, b .1)
+    to (no n) i = absurd (unfold inRange in (rw (no-bounds m (omega arith)) at i))
+
+pub length-shuffle : (m : ℕ) (rs xs : List ℕ) → length (shuffleWith m rs xs) ≡ length xs
+unfolding shuffleWith
+length-shuffle m [] xs = refl
+length-shuffle m (r ∷ rs) xs = length-shuffle (m - 1) rs (exchange xs r (m - 1)) ∙ length-exchange xs r (m - 1)
+
+-- places from m on keep their records
+kept : (m : ℕ) (rs xs : List ℕ) (k : ℕ) → T (inRange (shuffleBounds m) rs) → m ≤ k → getD (shuffleWith m rs xs) k 0 ≡ getD xs k 0
+unfolding shuffleWith
+kept m [] xs k i h = refl
+kept m (r ∷ rs) xs k i h =
+    let b = range-cons m r rs .0 i in
+    kept (m - 1) rs (exchange xs r (m - 1)) k (b .2) (omega arith)
+    ∙ exchange-other xs r (m - 1) k (omega (arith, b .1)) (omega (arith, b .0))
+
+-- ---- each series gives an order
+
+pub shuffle-reorders : (m : ℕ) (rs xs : List ℕ) → m ≤ length xs → T (inRange (shuffleBounds m) rs) → Distinct xs
+    → Reorders xs (shuffleWith m rs xs)
+unfolding shuffleWith
+shuffle-reorders m [] xs h i d = record { same-length = refl; among = λ k hk. (k, hk, refl); distinct = d }
+shuffle-reorders m (r ∷ rs) xs h i d =
+    let b = range-cons m r rs .0 i in
+    let hr : r < length xs = omega (arith, b .1) in
+    let hm : m - 1 < length xs = omega (arith, b .0) in
+    let o =
+    shuffle-reorders (m - 1) rs (exchange xs r (m - 1)) (rw length-exchange (omega arith)) (b .2)
+    (exchange-distinct xs r (m - 1) hr hm d) in
+    record {
+      same-length = o .same-length ∙ length-exchange xs r (m - 1);
+      among = λ k hk. among-before xs r (m - 1) hr hm _ (o .among k hk);
+      distinct = o .distinct;
+    }
+
+-- ---- each order comes from one series
+
+-- shuffled from the end down to place m: the places from m on are as ys has them
+record Midway (m : ℕ) (xs ys : List ℕ) : Type 0 where
+  fits : m ≤ length xs
+  distinct : Distinct xs
+  reorders : Reorders xs ys
+  settled : (k : ℕ) → m ≤ k → k < length xs → getD xs k 0 ≡ getD ys k 0
+
+module _ {m : ℕ} {xs ys : List ℕ} (w : Midway m xs ys) where
+  -- a place of xs is one of ys
+  of-ys : {k : ℕ} → k < length xs → k < length ys
+  of-ys h = rw (w .reorders .same-length) h
+
+  -- a record that ys has below m stands below m in xs
+  place-below : (j : ℕ) → j < m → (p : ℕ) → p < length xs → getD xs p 0 ≡ getD ys j 0 → p < m
+  place-below j h p hp e = go (decLt p m)
+    where
+      go : Dec (p < m) → p < m
+      go (yes l) = l
+      go (no n) =
+          let same : p ≡ j = w .reorders .distinct p j (of-ys hp) (of-ys (omega (arith, w .fits))) (sym (w .settled p (omega arith) hp) ∙ e) in
+          omega arith
+
+  -- with one record or none still to place, it stands where ys has it
+  all-placed : m ≤ 1 → xs ≡ ys
+  all-placed h = ext-getD 0 xs ys (sym (w .reorders .same-length)) at
+    where
+      at : (i : ℕ) → i < length xs → getD xs i 0 ≡ getD ys i 0
+      at i hi = go (decLt i m)
+        where
+          go : Dec (i < m) → getD xs i 0 ≡ getD ys i 0
+          go (yes l) =
+              let a = w .reorders .among i (of-ys hi) in
+              let p : a .0 < m = place-below i l (a .0) (a .1) (a .2) in
+              let z : i ≡ a .0 = omega arith in
+              ap (λ (n : ℕ). getD xs n 0) z ∙ a .2
+          go (no n) = w .settled i (omega arith) hi
+
+  -- the roll r brings the record that place m - 1 is to get
+  module _ (r : ℕ) (l : 1 < m) (h : r < m) (e : getD xs r 0 ≡ getD ys (m - 1) 0) where
+    hr : r < length xs
+    hr = omega (arith, w .fits)
+
+    hm : m - 1 < length xs
+    hm = omega (arith, w .fits)
+
+    midway-step : Midway (m - 1) (exchange xs r (m - 1)) ys
+    midway-step = record {
+      fits = rw length-exchange (omega (arith, w .fits));
+      distinct = exchange-distinct xs r (m - 1) hr hm (w .distinct);
+      reorders = record {
+        same-length = w .reorders .same-length ∙ sym (length-exchange xs r (m - 1));
+        among = λ i hi. among-after xs r (m - 1) hr hm (getD ys i 0) (w .reorders .among i hi);
+        distinct = w .reorders .distinct;
+      };
+      settled = λ k hk hl. at k (ℕ-discrete k (m - 1)) hk (rw length-exchange at hl);
+    }
+      where
+        at : (k : ℕ) → Dec (k ≡ m - 1) → m - 1 ≤ k → k < length xs → getD (exchange xs r (m - 1)) k 0 ≡ getD ys k 0
+        at k (yes f) hk hl = rw f (exchange-last xs r (m - 1) hm ∙ e)
+        at k (no f) hk hl = exchange-other xs r (m - 1) k (omega arith) f ∙ w .settled k (omega arith) hl
+
+    only-step : (rs : List ℕ) → Only (m - 1) (exchange xs r (m - 1)) ys rs → Only m xs ys (r ∷ rs)
+    unfolding shuffleWith
+    only-step rs o = record { in-range = range-cons m r rs .1 (l, h, o .in-range); gives = o .gives; unique = one }
+      where
+        one : (ss : List ℕ) → T (inRange (shuffleBounds m) ss) → shuffleWith m ss xs ≡ ys → ss ≡ r ∷ rs
+        one [] i g = absurd (unfold inRange in (rw (bounds-cons m l) at i))
+        one (s ∷ ss) i g =
+            let b = range-cons m s ss .0 i in
+            let last : getD xs s 0 ≡ getD ys (m - 1) 0 =
+            sym (kept (m - 1) ss (exchange xs s (m - 1)) (m - 1) (b .2) (le-refl (m - 1)) ∙ exchange-last xs s (m - 1) hm)
+            ∙ ap (λ (k : List ℕ). getD k (m - 1) 0) g in
+            let same : s ≡ r = w .distinct s r (omega (arith, b .1, w .fits)) hr (last ∙ sym e) in
+            ap₂ _∷_ same (o .unique ss (b .2) (subst (λ (n : ℕ). shuffleWith (m - 1) ss (exchange xs n (m - 1)) ≡ ys) same g))
+
+  only-none : m ≤ 1 → Only m xs ys []
+  unfolding shuffleWith
+  only-none h = record {
+    in-range = unfold inRange in (rw (no-bounds m h) tt);
+    gives = all-placed h;
+    unique = one;
+  }
+    where
+      one : (ss : List ℕ) → T (inRange (shuffleBounds m) ss) → shuffleWith m ss xs ≡ ys → ss ≡ []
+      one [] i g = refl
+      one (s ∷ ss) i g = let b = range-cons m s ss .0 i in absurd (let z : ⊥ = omega (arith, b .0) in z)
+
+pub rolls-into-step : (m : ℕ) (xs ys : List ℕ) → 1 < m
+    → rollsInto m xs ys
+    ≡ placeOf (getD ys (m - 1) 0) xs ∷ rollsInto (m - 1) (exchange xs (placeOf (getD ys (m - 1) 0) xs) (m - 1)) ys
+unfolding rollsInto
+rolls-into-step zero xs ys h = absurd (not-suc-le-zero h)
+rolls-into-step (suc zero) xs ys h = absurd (let z : ⊥ = omega arith in z)
+rolls-into-step (suc (suc m)) xs ys h = let e : suc (suc m) - 1 ≡ suc m = omega arith in rw e
+
+only : (m : ℕ) (xs ys : List ℕ) → Midway m xs ys → Only m xs ys (rollsInto m xs ys)
+only zero xs ys w = unfold rollsInto in only-none w (omega arith)
+only (suc zero) xs ys w = unfold rollsInto in only-none w (omega arith)
+only (suc (suc m)) xs ys w =
+    let n : ℕ = suc (suc m) in
+    let l : 1 < n = omega arith in
+    let e : n - 1 ≡ suc m = omega arith in
+    let r : ℕ = placeOf (getD ys (n - 1) 0) xs in
+    let a = place-at (getD ys (n - 1) 0) xs (w .reorders .among (n - 1) (of-ys w (omega (arith, w .fits)))) in
+    let h : r < n = place-below w (n - 1) (omega arith) r (a .0) (a .1) in
+    let less : (zs : List ℕ) → Midway (n - 1) zs ys → Only (n - 1) zs ys (rollsInto (n - 1) zs ys) = rw e (λ zs v. only (suc m) zs ys v) in
+    rw (rolls-into-step n xs ys l) (only-step w r l h (a .1) _ (less (exchange xs r (n - 1)) (midway-step w r l h (a .1))))
+
+pub one-series : (xs ys : List ℕ) → Distinct xs → Reorders xs ys → Only (length xs) xs ys (rollsInto (length xs) xs ys)
+one-series xs ys d r =
+    only (length xs) xs ys (record {
+      fits = le-refl (length xs);
+      distinct = d;
+      reorders = r;
+      settled = λ k h l. absurd (let z : ⊥ = omega arith in z);
+    })

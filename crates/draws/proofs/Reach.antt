@@ -1,0 +1,246 @@
+-- Which words give which rolls, over every width and plan: with one word for each batch, a run over the plan gives the rolls exactly
+-- when each word lies in its batch's run. No word may be rejected, since fewer words than batches are too few. From this and the one
+-- series of rolls behind an order: which words shuffle the records into which order. Assumes nothing.
+--
+--   full-runs              each run has 2^L / product words
+--   short-of-words         fewer words than batches are too few
+--   rolled-in-range        the rolls of a run are in range
+--   words-in-runs          one word for each batch: the run gives the rolls exactly when each word lies in its run
+--   gives-done             an outcome gives values exactly when it is done with them
+--   shuffle-gives          a shuffle gives an order exactly when each batch got its word and the rolls give the order
+--   shuffle-in-runs        one word for each batch: the shuffle gives the order exactly when each word lies in its run
+--   shuffle-in-runs64      at 64 bits
+use mathlib.Core.Path.{_≡_, refl, sym, ap, ap₂, _∙_, subst}
+use mathlib.Core.Logic.{_↔_}
+use mathlib.Core.Bool.{Bool, true, false}
+use mathlib.Core.List.{List, [], _∷_, _++_}
+use Prim.Native.Nat.{ℕ, suc, suc-le-suc, zero-le, _+_, _^_, _<_, _≤_}
+use native.Mathlib.Numerals.{add-one}
+use native.Mathlib.Omega.{arith}
+use lib.Dec.{T, lit≤}
+use lib.ListN.{length, take, drop, getD, length-drop, take-append-drop, drop-of-length-le}
+use lib.Seq.{drop-cons, getD-drop, take-at, drop-at}
+use borrow.Author.Tests.{le-ltb}
+use Rattle.arithmetic.specs.Rolls.{rolls, accepted, inRange}
+use Rattle.arithmetic.specs.Width.{Width, w64, size64}
+use Rattle.arithmetic.proofs.Rolls.{rolls-length, rolls-in-range, in-range-cons}
+use Rattle.arithmetic.proofs.Words.{words-behind, last-fits, run-length}
+use Rattle.rolls.specs.Run.{Taken, Found, found, missing, find, Run, ran, short, after, runFrom, run, trace, rollsOf}
+use Rattle.rolls.specs.Inner.{suffices}
+use Rattle.rolls.specs.Outcome.{Outcome, refused, done, decide, noWord, used}
+use Rattle.rolls.proofs.Finding.{find-hit, find-miss, find-within}
+use Rattle.rolls.proofs.Running.{run-hit, run-missing}
+use Rattle.draws.specs.Shuffle.{shuffleWith, shufflePlan}
+use Rattle.draws.specs.Order.{rollsInto, AllBelow, Distinct, Reorders}
+use Rattle.draws.specs.Plan.{joined, Rollable, RollablePlan, GoodSizes}
+use Rattle.draws.specs.Runs.{InRuns, FullRuns, Rolled, Gives}
+use Rattle.draws.specs.Operations.{shuffle}
+use Rattle.draws.proofs.Plans.{sizes-more, shuffle-plan, sizes64}
+use Rattle.draws.proofs.Orders.{one-series}
+
+-- ---- rolls in range, batch by batch
+
+range-split : (bs cs rs : List ℕ) → T (inRange (bs ++ cs) rs) → T (inRange bs (take (length bs) rs)) × T (inRange cs (drop (length bs) rs))
+unfolding inRange
+range-split [] cs rs i = (tt, i)
+range-split (b ∷ bs) cs [] i = absurd i
+range-split (b ∷ bs) cs (r ∷ rs) i =
+    let h = in-range-cons b (bs ++ cs) r rs .0 i in
+    let s = range-split bs cs rs (h .1) in
+    (in-range-cons b bs r (take (length bs) rs) .1 (h .0, s .0), s .1)
+
+range-join : (bs cs rs ss : List ℕ) → T (inRange bs rs) → T (inRange cs ss) → T (inRange (bs ++ cs) (rs ++ ss))
+unfolding inRange
+range-join [] cs [] ss i j = j
+range-join [] cs (r ∷ rs) ss i j = absurd i
+range-join (b ∷ bs) cs [] ss i j = absurd i
+range-join (b ∷ bs) cs (r ∷ rs) ss i j =
+    let h = in-range-cons b bs r rs .0 i in
+    in-range-cons b (bs ++ cs) r (rs ++ ss) .1 (h .0, range-join bs cs rs ss (h .1) j)
+
+module _ (L : ℕ) where
+  pub full-runs : (plan : List (List ℕ)) (rs : List ℕ) → RollablePlan (2 ^ L) plan → T (inRange (joined plan) rs) → FullRuns L plan rs
+  unfolding joined
+  full-runs [] rs g i = tt
+  full-runs (bs ∷ plan) rs (b, g) i =
+      let s = range-split bs (joined plan) rs i in
+      let part : List ℕ = take (length bs) rs in
+      (last-fits L bs part (b .positive) (b .fits) (s .0), run-length L bs part (b .positive) (b .fits), full-runs plan (drop (length bs) rs) g (s .1))
+
+-- ---- a run that is not short
+
+suffices-after : (t : Taken) (r : Run) → T (suffices (after t r)) → T (suffices r)
+suffices-after t (ran ts) s = s
+suffices-after t (short k) s = s
+
+module _ (L : ℕ) (words : List ℕ) where
+  pub short-of-words : (plan : List (List ℕ)) (start batch : ℕ) → start ≤ length words → length words < start + length plan
+      → T (suffices (runFrom L plan words start batch)) → ⊥
+  short-of-words [] start batch h l s = omega arith
+  short-of-words (bs ∷ plan) start batch h l s = go (find (accepted L bs) (drop start words) start) refl (short-of-words plan)
+    where
+      go : (f : Found) → find (accepted L bs) (drop start words) start ≡ f
+          → ((start batch : ℕ) → start ≤ length words → length words < start + length plan → T (suffices (runFrom L plan words start batch)) → ⊥) → ⊥
+      go missing e ih = rw (run-missing L bs plan words start batch e) at s
+      go (found t) e ih =
+          let b = find-within (accepted L bs) words start h e in
+          ih (t .place + 1) (batch + 1) (omega (arith, b .1)) (omega (arith, b .0))
+          (suffices-after t (runFrom L plan words (t .place + 1) (batch + 1)) (rw (run-hit L bs plan words start batch e) at s))
+
+-- a word that is found is one of the list
+abbrev FoundBelow : ℕ → Found → Type 0
+FoundBelow top (found t) = t .word < top
+FoundBelow top missing = Unit
+
+find-below : {top : ℕ} (test : ℕ → Bool) (ws : List ℕ) (place : ℕ) → AllBelow top ws → FoundBelow top (find test ws place)
+unfolding find
+find-below test [] place b = tt
+find-below {top} test (w ∷ ws) place b = go (test w) refl (find-below test ws (place + 1) (λ i h. b (suc i) (suc-le-suc h)))
+  where
+    go : (t : Bool) → test w ≡ t → FoundBelow top (find test ws (place + 1)) → FoundBelow top (find test (w ∷ ws) place)
+    go true e ih = rw (e, find) (b 0 (suc-le-suc zero-le))
+    go false e ih = rw (e, find) ih
+
+drop-below : {top : ℕ} (start : ℕ) (ws : List ℕ) → AllBelow top ws → AllBelow top (drop start ws)
+drop-below start ws b i h = rw getD-drop (b (start + i) (omega (arith, rw length-drop at h)))
+
+abbrev InRangeOf : ℕ → List (List ℕ) → Run → Type 0
+InRangeOf L plan r = T (suffices r) → T (inRange (joined plan) (rollsOf L plan (trace r)))
+
+range-after : (L : ℕ) (bs : List ℕ) (plan : List (List ℕ)) (t : Taken) (r : Run) → Rollable (2 ^ L) bs → t .word < 2 ^ L
+    → InRangeOf L plan r → InRangeOf L (bs ∷ plan) (after t r)
+unfolding joined rollsOf
+range-after L bs plan t (ran ts) b h i s =
+    range-join bs (joined plan) (rolls L bs (t .word)) (rollsOf L plan ts) (rolls-in-range L bs (t .word) (b .positive) h) (i s)
+range-after L bs plan t (short k) b h i s = absurd s
+
+pub rolled-in-range : (L : ℕ) (words : List ℕ) → AllBelow (2 ^ L) words → (plan : List (List ℕ)) (start batch : ℕ) → RollablePlan (2 ^ L) plan
+    → T (suffices (runFrom L plan words start batch)) → T (inRange (joined plan) (rollsOf L plan (trace (runFrom L plan words start batch))))
+rolled-in-range L words w [] start batch g s = unfold joined runFrom rollsOf inRange in tt
+rolled-in-range L words w (bs ∷ plan) start batch (b, g) s =
+    go (find (accepted L bs) (drop start words) start) refl (λ start batch. rolled-in-range L words w plan start batch g) s
+  where
+    go : (f : Found) → find (accepted L bs) (drop start words) start ≡ f
+        → ((start batch : ℕ) → InRangeOf L plan (runFrom L plan words start batch)) → InRangeOf L (bs ∷ plan) (runFrom L (bs ∷ plan) words start batch)
+    go missing e ih = rw (run-missing L bs plan words start batch e) (λ s. absurd s)
+    go (found t) e ih =
+        rw (run-hit L bs plan words start batch e)
+        (range-after L bs plan t (runFrom L plan words (t .place + 1) (batch + 1)) b
+        (subst (FoundBelow (2 ^ L)) e (find-below (accepted L bs) (drop start words) start (drop-below start words w)))
+        (ih (t .place + 1) (batch + 1)))
+
+-- ---- one word for each batch
+
+-- the rolls of a batch and of those after it
+rolled-after : (L : ℕ) (bs : List ℕ) (plan : List (List ℕ)) (rs : List ℕ) (t : Taken) (r : Run)
+    → Rolled L (bs ∷ plan) rs (after t r) ↔ ((rolls L bs (t .word) ≡ take (length bs) rs) × Rolled L plan (drop (length bs) rs) r)
+unfolding rollsOf
+rolled-after L bs plan rs t (ran ts) =
+    let mine : List ℕ = rolls L bs (t .word) in
+    let later : List ℕ = rollsOf L plan ts in
+    let n : length mine ≡ length bs = rolls-length L bs (t .word) in (
+      λ (s, e). (sym (take-at mine later (length bs) n) ∙ ap (take (length bs)) e, (s, sym (drop-at mine later (length bs) n) ∙ ap (drop (length bs)) e)),
+      λ (e, g). (g .0, ap₂ _++_ e (g .1) ∙ take-append-drop (length bs) rs),
+    )
+rolled-after L bs plan rs t (short k) = (λ g. absurd (g .0), λ g. absurd (g .1 .0))
+
+module _ (L : ℕ) (words : List ℕ) (bs : List ℕ) (plan : List (List ℕ)) (start batch : ℕ) (h : start < length words) where
+  run-accepted : accepted L bs (getD words start 0) ≡ true
+      → runFrom L (bs ∷ plan) words start batch
+      ≡ after (record { place = start; word = getD words start 0 }) (runFrom L plan words (start + 1) (batch + 1))
+  run-accepted e = run-hit L bs plan words start batch (find-hit (accepted L bs) words start h e)
+
+  run-rejected : accepted L bs (getD words start 0) ≡ false → runFrom L (bs ∷ plan) words start batch ≡ runFrom L (bs ∷ plan) words (start + 1) batch
+  unfolding runFrom
+  run-rejected e = rw (find-miss (accepted L bs) words start h e, runFrom)
+
+  -- a rejected word leaves too few for the batches
+  first-batch : (rs : List ℕ) → start + length (bs ∷ plan) ≡ length words
+      → Rolled L (bs ∷ plan) rs (runFrom L (bs ∷ plan) words start batch)
+      ↔ (T (accepted L bs (getD words start 0)) × (rolls L bs (getD words start 0) ≡ take (length bs) rs)
+      × Rolled L plan (drop (length bs) rs) (runFrom L plan words (start + 1) (batch + 1)))
+  first-batch rs n = go (accepted L bs (getD words start 0)) refl
+    where
+      go : (b : Bool) → accepted L bs (getD words start 0) ≡ b
+          → Rolled L (bs ∷ plan) rs (runFrom L (bs ∷ plan) words start batch)
+          ↔ (T b × (rolls L bs (getD words start 0) ≡ take (length bs) rs)
+          × Rolled L plan (drop (length bs) rs) (runFrom L plan words (start + 1) (batch + 1)))
+      go true e =
+          let a = rolled-after L bs plan rs (record { place = start; word = getD words start 0 }) (runFrom L plan words (start + 1) (batch + 1)) in
+          rw (run-accepted e) (λ g. let x = a .0 g in (tt, x .0, x .1), λ (t, x, y). a .1 (x, y))
+      go false e = (
+        λ g. absurd (short-of-words L words (bs ∷ plan) (start + 1) batch (omega arith) (omega arith) (rw (run-rejected e) at (g .0))),
+        λ g. absurd (g .0),
+      )
+
+module _ (L : ℕ) (words : List ℕ) (w : AllBelow (2 ^ L) words) where
+  from-place : (plan : List (List ℕ)) (rs : List ℕ) (start batch : ℕ) → RollablePlan (2 ^ L) plan → T (inRange (joined plan) rs)
+      → start + length plan ≡ length words → Rolled L plan rs (runFrom L plan words start batch) ↔ InRuns L plan rs (drop start words)
+  unfolding joined inRange runFrom rollsOf
+  from-place [] [] start batch g i n = rw (drop-of-length-le words {i = start} (omega arith)) (λ r. tt, λ r. (tt, refl))
+  from-place [] (r ∷ rs) start batch g i n = absurd i
+  from-place (bs ∷ plan) rs start batch (b, g) i n =
+      let h : start < length words = omega arith in
+      let s = range-split bs (joined plan) rs i in
+      let first = first-batch L words bs plan start batch h rs n in
+      let behind = words-behind L bs (take (length bs) rs) (b .positive) (b .fits) (s .0) (getD words start 0) (w start h) in
+      let later = from-place plan (drop (length bs) rs) (start + 1) (batch + 1) g (s .1) (omega arith) in
+      let next : drop start words ≡ getD words start 0 ∷ drop (start + 1) words = rw add-one (drop-cons words start 0 h) in
+      subst (λ (l : List ℕ). Rolled L (bs ∷ plan) rs (runFrom L (bs ∷ plan) words start batch) ↔ InRuns L (bs ∷ plan) rs l) (sym next) (
+        λ r. let (t, e, x) = first .0 r in let (low, high) = behind .0 (t, e) in (low, high, later .0 x),
+        λ (low, high, x). let (t, e) = behind .1 (low, high) in first .1 (t, e, later .1 x),
+      )
+
+-- with as many words as batches, all of them from place 0 on
+pub words-in-runs : (L : ℕ) (plan : List (List ℕ)) (rs words : List ℕ) → RollablePlan (2 ^ L) plan → T (inRange (joined plan) rs)
+    → length words ≡ length plan → AllBelow (2 ^ L) words → Rolled L plan rs (run L plan words 0) ↔ InRuns L plan rs words
+words-in-runs L plan rs words g i n w = from-place L words w plan rs 0 0 g i (omega arith)
+
+-- ---- the shuffle
+
+pub gives-done : (values : List ℕ) (o : Outcome) → Gives values o ↔ ((next rejected : ℕ) × (o ≡ done values next rejected))
+gives-done values (refused number batch) = (λ g. absurd g, λ (n, r, e). let z : _≡_ {A = ℕ} 0 1 = cc in absurd (let f : ⊥ = omega arith in f))
+gives-done values (done drawn next rejected) = (λ g. (next, rejected, ap (λ (v : List ℕ). done v next rejected) g), λ (n, r, e). cc)
+
+gives-run : (start : ℕ) (values ys : List ℕ) (r : Run) → Gives ys (decide (noWord r ∷ []) (used start r values)) ↔ (T (suffices r) × (values ≡ ys))
+unfolding decide
+gives-run start values ys (ran ts) = (λ g. (tt, g), λ g. g .1)
+gives-run start values ys (short k) = (λ g. absurd g, λ g. absurd (g .0))
+
+-- the run of a shuffle, and its rolls
+abbrev pub shuffleRun : Width → List ℕ → ℕ → List ℕ → Run
+shuffleRun W words start xs = run (W .bits) (shufflePlan (W .size) (length xs)) words start
+
+abbrev pub shuffleRolls : Width → List ℕ → ℕ → List ℕ → List ℕ
+shuffleRolls W words start xs = rollsOf (W .bits) (shufflePlan (W .size) (length xs)) (trace (shuffleRun W words start xs))
+
+pub shuffle-gives : (W : Width) (words : List ℕ) (start : ℕ) (xs ys : List ℕ) → length xs ≤ 16384 → start ≤ length words
+    → Gives ys (shuffle W words start xs)
+    ↔ (T (suffices (shuffleRun W words start xs)) × (shuffleWith (length xs) (shuffleRolls W words start xs) xs ≡ ys))
+unfolding shuffle decide
+shuffle-gives W words start xs ys h k =
+    rw (le-ltb (length xs) 0 (omega arith), le-ltb 16384 (length xs) h, le-ltb (length words) start k)
+    (gives-run start (shuffleWith (length xs) (shuffleRolls W words start xs) xs) ys (shuffleRun W words start xs))
+
+pub shuffle-in-runs : (W : Width) → GoodSizes (W .size) (2 ^ W .bits) 16384 → (xs ys words : List ℕ) → length xs ≤ 16384
+    → Distinct xs → Reorders xs ys → length words ≡ length (shufflePlan (W .size) (length xs)) → AllBelow (2 ^ W .bits) words
+    → Gives ys (shuffle W words 0 xs) ↔ InRuns (W .bits) (shufflePlan (W .size) (length xs)) (rollsInto (length xs) xs ys) words
+shuffle-in-runs W z xs ys words h d o n w =
+    let plan : List (List ℕ) = shufflePlan (W .size) (length xs) in
+    let good = shuffle-plan z (length xs) h in
+    let one = one-series xs ys d o in
+    let gives = shuffle-gives W words 0 xs ys h (omega arith) in
+    let runs = words-in-runs (W .bits) plan (rollsInto (length xs) xs ys) words (good .rollable) (rw (good .same) (one .in-range)) n w in (
+      λ g.
+          let (s, e) = gives .0 g in
+          let i = rolled-in-range (W .bits) words w plan 0 0 (good .rollable) s in
+          runs .0 (s, one .unique (shuffleRolls W words 0 xs) (rw (good .same) at i) e),
+      λ r.
+          let (s, e) = runs .1 r in
+          gives .1 (s, ap (λ (rs : List ℕ). shuffleWith (length xs) rs xs) e ∙ one .gives),
+    )
+
+pub shuffle-in-runs64 : (xs ys words : List ℕ) → length xs ≤ 16384 → Distinct xs → Reorders xs ys
+    → length words ≡ length (shufflePlan size64 (length xs)) → AllBelow (2 ^ 64) words
+    → Gives ys (shuffle w64 words 0 xs) ↔ InRuns 64 (shufflePlan size64 (length xs)) (rollsInto (length xs) xs ys) words
+shuffle-in-runs64 = shuffle-in-runs w64 (sizes-more (lit≤ tt) sizes64)

@@ -1,0 +1,6 @@
+pub mod Shuffle
+pub mod Sample
+pub mod Order
+pub mod Operations
+pub mod Plan
+pub mod Runs

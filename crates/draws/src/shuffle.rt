@@ -1,0 +1,174 @@
+// The shuffle: Fisher-Yates with batched rolls. First it is known that the words suffice for every batch, then records are exchanged.
+use arithmetic::bounds::threshold_of;
+use arithmetic::wide::high;
+use arithmetic::wide::low;
+use rolls::answer::refused_answer;
+use rolls::answer::Answer;
+use rolls::refusal;
+use rolls::search::find_word;
+use rolls::search::Search;
+use rolls::supply::Supply;
+
+ghost use mathlib.Core.Path.{_≡_};
+ghost use mathlib.Core.Bool.{true};
+ghost use Prim.Native.Nat.{_≤_, _<_, _^_};
+ghost use lib.ListN.{length};
+ghost use Rattle.arithmetic.specs.Rolls.{rolls, product};
+ghost use Rattle.arithmetic.specs.Width.{size64, w64};
+ghost use Rattle.rolls.specs.Run.{run, trace, rollsOf};
+ghost use Rattle.rolls.specs.Outcome.{shown, left};
+ghost use Rattle.rolls.specs.Inner.{supplied, suffices};
+ghost use Rattle.draws.specs.Shuffle.{exchange, shuffleWith, countdown, shufflePlan};
+ghost use Rattle.draws.specs.Operations.{shuffle};
+
+// The most records of a draw.
+pub const MAX_RECORDS: usize = 16384;
+
+// The size of the next batch with m records still to place.
+pub fn batch_size(m: usize) -> usize
+    requires { ⌜ 0 < m ⌝ }
+    ensures { λ r. ⌜ r ≡ size64 m ⌝ }
+{
+    if m <= 6 {
+        return m - 1;
+    }
+    if m <= 512 {
+        return 6;
+    }
+    if m <= 2048 {
+        return 5;
+    }
+    4
+}
+
+// The product of the bounds m, m - 1, .., s of them.
+pub fn product_down(m: usize, s: usize) -> u64
+    requires { ⌜ (s ≤ m) × (product (countdown s m) < 2 ^ 64) ⌝ }
+    ensures { λ r. ⌜ r ≡ product (countdown s m) ⌝ }
+{
+    let mut p: u64 = 1;
+    let mut bound = m;
+    let mut left = s;
+    while 0 < left {
+        p = p * bound as u64;
+        bound -= 1;
+        left -= 1;
+    }
+    p
+}
+
+// Takes a word for each batch of a shuffle of n records, and keeps only where the last one stood and how many were rejected.
+pub fn supply_shuffle(words: &[u64], start: usize, n: usize) -> Supply
+    requires { ⌜ (start ≤ length (now words)) × (n ≤ 16384) ⌝ }
+    ensures { λ r. ⌜ r ≡ supplied start (run 64 (shufflePlan size64 n) (now (words .entry)) start) ⌝ }
+{
+    let mut next = start;
+    let mut rejected: usize = 0;
+    let mut batch: usize = 0;
+    let mut m = n;
+    while 1 < m {
+        let s = batch_size(m);
+        let b = product_down(m, s);
+        match find_word(words, next, b, threshold_of(b)) {
+            Search::Hit {
+                word: _,
+                place,
+                rejected: more,
+            } => {
+                next = place + 1;
+                rejected += more;
+                batch += 1;
+                m -= s;
+            }
+            Search::Missing => {
+                return Supply::Short { batch };
+            }
+        }
+    }
+    Supply::Enough { next, rejected }
+}
+
+// Exchanges the records at places i and j.
+pub fn exchange_records(records: &mut [u32], i: usize, j: usize)
+    requires { ⌜ (i < length (now records)) × (j < length (now records)) ⌝ }
+    ensures { λ r. ⌜ now (records .exit) ≡ exchange (now (records .entry)) i j ⌝ }
+{
+    let record = records[i];
+    records[i] = records[j];
+    records[j] = record;
+}
+
+// Places s records by the rolls of one word, with m still to place: for each bound in turn, the record at place roll is exchanged with
+// the last of those that are left.
+pub fn place_batch(records: &mut [u32], m: usize, s: usize, word: u64)
+    requires { ⌜ (s ≤ m) × (m ≤ length (now records)) ⌝ }
+    ensures { λ r. ⌜ now (records .exit) ≡ shuffleWith m (rolls 64 (countdown s m) word) (now (records .entry)) ⌝ }
+{
+    let mut r = word;
+    let mut bound = m;
+    let mut left = s;
+    while 0 < left {
+        let roll = high(bound as u64, r);
+        r = low(bound as u64, r);
+        bound -= 1;
+        left -= 1;
+        exchange_records(records, roll as usize, bound);
+    }
+}
+
+// Shuffles the records, where it is known that the words suffice.
+pub fn place_all(words: &[u64], start: usize, records: &mut [u32])
+    requires { ⌜ (start ≤ length (now words)) × (length (now records) ≤ 16384) × (suffices (run 64 (shufflePlan size64 (length (now records))) (now words) start) ≡ true) ⌝ }
+    ensures { λ r. ⌜ now (records .exit) ≡ shuffleWith (length (now (records .entry))) (rollsOf 64 (shufflePlan size64 (length (now (records .entry)))) (trace (run 64 (shufflePlan size64 (length (now (records .entry)))) (now (words .entry)) start))) (now (records .entry)) ⌝ }
+{
+    let mut next = start;
+    let mut m = records.len();
+    while 1 < m {
+        let s = batch_size(m);
+        let b = product_down(m, s);
+        match find_word(words, next, b, threshold_of(b)) {
+            Search::Hit {
+                word,
+                place,
+                rejected: _,
+            } => {
+                place_batch(records, m, s, word);
+                next = place + 1;
+                m -= s;
+            }
+            Search::Missing => {
+                return;
+            }
+        }
+    }
+}
+
+// The records in a drawn order, by the Fisher-Yates shuffle with bounds n, n - 1, .., 2, cut into batches of fixed sizes.
+//
+// Each batch takes the first word after the one before it that it accepts; 0 or 1 record uses none. Refusals, the lowest that applies:
+// 2 more than 16,384 records, 9 start above the number of words, 10 the words end before some batch has one; the records are then
+// exactly what they were. Two passes over the words, one multiplication for each word looked at and one for each record. Of 0, 1, 2
+// with words 0, 1 it makes 1, 2, 0: next is 2 and one word is rejected.
+pub fn shuffle_records(words: &[u64], start: usize, records: &mut [u32]) -> Answer
+    ensures answer { λ r. ⌜ r ≡ shown start (shuffle w64 (now (words .entry)) start (now (records .entry))) ⌝ }
+    ensures records { λ r. ⌜ now (records .exit) ≡ left (now (records .entry)) (shuffle w64 (now (words .entry)) start (now (records .entry))) ⌝ }
+{
+    if MAX_RECORDS < records.len() {
+        return refused_answer(refusal::COUNT, start, 0);
+    }
+    if words.len() < start {
+        return refused_answer(refusal::START, start, 0);
+    }
+    match supply_shuffle(words, start, records.len()) {
+        Supply::Enough { next, rejected } => {
+            place_all(words, start, records);
+            Answer {
+                no: 0,
+                next,
+                rejected,
+                batch: 0,
+            }
+        }
+        Supply::Short { batch } => refused_answer(refusal::WORDS, start, batch),
+    }
+}
