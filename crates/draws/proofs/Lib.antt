@@ -1,7 +1,9 @@
 pub mod Plans
 pub mod Orders
 pub mod Each
+pub mod OneSample
 pub mod OneShuffle
 pub mod Placing
 pub mod Reach
+pub mod Sampling
 pub mod Shuffling

@@ -1,0 +1,83 @@
+-- A sample, refusal by refusal. Assumes nothing.
+use mathlib.Core.Path.{_≡_, refl, sym, ap, ap₂, _∙_}
+use mathlib.Core.Bool.{Bool, true, false}
+use mathlib.Core.List.{List, [], _∷_, _++_}
+use Prim.Native.Nat.{ℕ, _+_, _-_, _^_, _<_, _≤_}
+use lib.Dec.{ltb}
+use lib.ListN.{length, take, drop, set, length-set}
+use lib.Seq.{length-take-le}
+use Rattle.arithmetic.specs.Width.{w64}
+use Rattle.rolls.specs.Run.{Run, run, trace, rollsOf}
+use Rattle.rolls.specs.Cut.{cut}
+use Rattle.rolls.specs.Outcome.{Outcome, refused, done, no, noWord, decide, used, outside}
+use Rattle.rolls.specs.Inner.{supplied}
+use Rattle.rolls.specs.declared.supply.Supply.the-variants.{Enough, Short}
+use Rattle.rolls.proofs.Deciding.{decide-here, decide-past, no-start, no-words, words-done, supplied-enough, supplied-short}
+use Rattle.draws.specs.Sample.{countup, reservoir}
+use Rattle.draws.specs.Operations.{sample}
+
+module _ (words : List ℕ) (start : ℕ) (xs : List ℕ) (k room : ℕ) where
+  pub sample-count : outside 0 16384 (length xs) ≡ true → sample w64 words start xs k room ≡ refused 2 0
+  unfolding sample
+  sample-count e = decide-here _ _ _ e
+
+  module _ (count : outside 0 16384 (length xs) ≡ false) where
+    pub sample-size : outside 1 (length xs) k ≡ true → sample w64 words start xs k room ≡ refused 3 0
+    unfolding sample
+    sample-size e = decide-past _ _ _ count ∙ decide-here _ _ _ e
+
+    module _ (size : outside 1 (length xs) k ≡ false) where
+      pub sample-room : ltb room k ≡ true → sample w64 words start xs k room ≡ refused 6 0
+      unfolding sample
+      sample-room e = decide-past _ _ _ count ∙ decide-past _ _ _ size ∙ decide-here _ _ _ e
+
+      module _ (fits : ltb room k ≡ false) where
+        plan : List (List ℕ)
+        plan = cut (2 ^ 56) (countup (length xs - k) (k + 1))
+
+        ran-sample : Run
+        ran-sample = run 64 plan words start
+
+        values : List ℕ
+        values = reservoir (take k xs) (drop k xs) (rollsOf 64 plan (trace ran-sample))
+
+        rest : sample w64 words start xs k room ≡ decide (no 9 (ltb (length words) start) ∷ noWord ran-sample ∷ []) (used start ran-sample values)
+        unfolding sample plan ran-sample values
+        rest = decide-past _ _ _ count ∙ decide-past _ _ _ size ∙ decide-past _ _ _ fits
+
+        pub sample-start : length words < start → sample w64 words start xs k room ≡ refused 9 0
+        sample-start h = rest ∙ no-start words start ran-sample _ h
+
+        -- with the bounds laid out
+        module _ (h : start ≤ length words) (bs : List ℕ) (b : bs ≡ countup (length xs - k) (k + 1)) where
+          same : run 64 (cut (2 ^ 56) bs) words start ≡ ran-sample
+          unfolding plan ran-sample
+          same = ap (λ (l : List ℕ). run 64 (cut (2 ^ 56) l) words start) b
+
+          pub sample-short : (j : ℕ) → supplied start (run 64 (cut (2 ^ 56) bs) words start) ≡ Short j → sample w64 words start xs k room ≡ refused 10 j
+          sample-short j e = rest ∙ no-words words start ran-sample _ h j (sym same ∙ supplied-short start _ j e)
+
+          pub sample-done : (to more : ℕ) → supplied start (run 64 (cut (2 ^ 56) bs) words start) ≡ Enough to more
+              → sample w64 words start xs k room
+              ≡ done (reservoir (take k xs) (drop k xs) (rollsOf 64 (cut (2 ^ 56) bs) (trace (run 64 (cut (2 ^ 56) bs) words start)))) to more
+          unfolding plan ran-sample values
+          sample-done to more e =
+              let known = supplied-enough start ran-sample to more (ap (supplied start) (sym same) ∙ e) in
+              rest ∙ words-done words start ran-sample _ h (known .enough)
+              ∙ ap₂ (done values) (known .place) (known .passed)
+              ∙ ap (λ (l : List ℕ). done (reservoir (take k xs) (drop k xs) (rollsOf 64 (cut (2 ^ 56) l) (trace (run 64 (cut (2 ^ 56) l) words start)))) to more) (sym b)
+
+-- ---- as many values as slots
+
+reservoir-length : (slots xs js : List ℕ) → length (reservoir slots xs js) ≡ length slots
+unfolding reservoir
+reservoir-length slots [] js = refl
+reservoir-length slots (x ∷ xs) [] = refl
+reservoir-length slots (x ∷ xs) (j ∷ js) = reservoir-length _ xs js ∙ go (ltb j (length slots))
+  where
+    go : (t : Bool) → length {A = ℕ} (elim t [ true ↦ set slots j x | false ↦ slots ]) ≡ length slots
+    go true = length-set slots j x
+    go false = refl
+
+pub sample-length : (xs js : List ℕ) (k : ℕ) → k ≤ length xs → length (reservoir (take k xs) (drop k xs) js) ≡ k
+sample-length xs js k h = reservoir-length (take k xs) (drop k xs) js ∙ length-take-le k xs h

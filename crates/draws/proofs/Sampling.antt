@@ -1,0 +1,164 @@
+-- The loops of a sample: its bounds laid out, the first records put into the slots, the later ones after them. Assumes nothing.
+--
+--   Counting, count-turn, count-done     from, from + 1, .., as many as the list has places
+--   First, first-turn, first-done        the first k records are in the first k slots
+--   Later, later-taken, later-passed     the later records, each with its roll
+--   no-zero                              no bound of a sample is 0
+use mathlib.Core.Path.{_≡_, refl, sym, ap, ap₂, _∙_}
+use mathlib.Core.Bool.{Bool, true, false, _||_}
+use mathlib.Core.List.{List, [], _∷_, _++_, append-assoc, append-nil}
+use Prim.Native.Nat.{ℕ, zero, suc, _+_, _-_, _<_, _≤_}
+use native.Mathlib.Nat.{sub-zero}
+use native.Mathlib.Numerals.{add-one}
+use native.Mathlib.Omega.{arith}
+use lib.Dec.{ltb, eqb}
+use lib.ListN.{length, take, drop, set, getD, length-set, take-append-drop, drop-of-length-le}
+use lib.Seq.{take-suc, take-all, take-at, drop-at, drop-cons, take-set-lt, drop-set-lt, length-take-le, length-front}
+use borrow.Author.Tests.{lt-ltb, le-ltb, ne-eqb}
+use Rattle.arithmetic.specs.Products.{hasZero}
+use Rattle.rolls.proofs.Writing.{stored-front, stored-back}
+use Rattle.draws.specs.Sample.{countup, reservoir}
+use Rattle.draws.proofs.Plans.{countup-length}
+
+-- ---- the bounds
+
+pub no-zero : (s i : ℕ) → 0 < i → hasZero (countup s i) ≡ false
+unfolding countup hasZero
+no-zero zero i h = refl
+no-zero (suc s) i h = ap₂ _||_ (ne-eqb i 0 (λ e. omega arith)) (no-zero s (i + 1) (omega arith))
+
+abbrev pub Counting : List ℕ → ℕ → List ℕ → ℕ → Type 0
+Counting bs₀ from bs i =
+    (i ≤ length bs₀) × (length bs ≡ length bs₀) × (take i bs ++ countup (length bs₀ - i) (from + i) ≡ countup (length bs₀) from)
+
+pub count-none : (bs : List ℕ) (from : ℕ) → Counting bs from bs 0
+count-none bs from = let e : from + 0 ≡ from = omega arith in (omega arith, refl, rw (sub-zero, e))
+
+module _ (bs₀ : List ℕ) (from : ℕ) (bs : List ℕ) (i : ℕ) (v : Counting bs₀ from bs i) where
+  pub count-turn : i < length bs₀ → Counting bs₀ from (set bs i (from + i)) (i + 1)
+  unfolding countup
+  count-turn h =
+      let n : ℕ = length bs₀ in
+      let e : n - i ≡ suc (n - (i + 1)) = omega arith in
+      let f : from + i + 1 ≡ from + (i + 1) = omega arith in
+      (omega arith, length-set bs i (from + i) ∙ v .1,
+      rw (stored-front bs i (from + i) (omega arith), append-assoc, ← f) (rw e at (v .2)))
+
+  pub count-done : length bs₀ ≤ i → bs ≡ countup (length bs₀) from
+  unfolding countup
+  count-done h =
+      let e : length bs₀ - i ≡ 0 = omega arith in
+      sym (take-all i bs (omega arith)) ∙ sym (append-nil (take i bs)) ∙ (rw e at (v .2))
+
+-- ---- the first k records
+
+abbrev pub First : List ℕ → ℕ → List ℕ → List ℕ → ℕ → Type 0
+First xs k slots₀ slots i = (i ≤ k) × (length slots ≡ length slots₀) × (take i slots ≡ take i xs) × (drop i slots ≡ drop i slots₀)
+
+pub first-none : (xs : List ℕ) (k : ℕ) (slots : List ℕ) → First xs k slots slots 0
+first-none xs k slots = (omega arith, refl, refl, refl)
+
+module _ (xs : List ℕ) (k : ℕ) (slots₀ slots : List ℕ) (i : ℕ) (v : First xs k slots₀ slots i) where
+  pub first-turn : i < k → k ≤ length xs → k ≤ length slots₀ → First xs k slots₀ (set slots i (getD xs i 0)) (i + 1)
+  first-turn h l m =
+      (omega arith, length-set slots i (getD xs i 0) ∙ v .1,
+      stored-front slots i (getD xs i 0) (omega arith) ∙ ap (λ (s : List ℕ). s ++ getD xs i 0 ∷ []) (v .2)
+      ∙ sym (ap (λ (n : ℕ). take n xs) (add-one i) ∙ take-suc xs i 0 (omega arith)),
+      stored-back slots slots₀ i (getD xs i 0) (v .3))
+
+  pub first-done : k ≤ i → slots ≡ take k xs ++ drop k slots₀
+  first-done h =
+      let e : i ≡ k = omega arith in
+      sym (take-append-drop i slots) ∙ rw (v .2, v .3, e)
+
+-- ---- the later records
+
+reservoir-taken : (slots : List ℕ) (x : ℕ) (xs : List ℕ) (j : ℕ) (js : List ℕ) → j < length slots
+    → reservoir slots (x ∷ xs) (j ∷ js) ≡ reservoir (set slots j x) xs js
+unfolding reservoir
+reservoir-taken slots x xs j js h = rw (lt-ltb j (length slots) h, reservoir)
+
+reservoir-passed : (slots : List ℕ) (x : ℕ) (xs : List ℕ) (j : ℕ) (js : List ℕ) → length slots ≤ j
+    → reservoir slots (x ∷ xs) (j ∷ js) ≡ reservoir slots xs js
+unfolding reservoir
+reservoir-passed slots x xs j js h = rw (le-ltb j (length slots) h, reservoir)
+
+reservoir-none : (slots xs : List ℕ) → reservoir slots xs [] ≡ slots
+unfolding reservoir
+reservoir-none slots [] = refl
+reservoir-none slots (x ∷ xs) = refl
+
+-- the records before place k + i have had their turn
+abbrev pub Later : List ℕ → ℕ → List ℕ → List ℕ → List ℕ → ℕ → Type 0
+Later xs k js slots₀ slots i =
+    (i ≤ length js) × (length slots ≡ length slots₀) × (drop k slots ≡ drop k slots₀)
+    × (reservoir (take k slots) (drop (k + i) xs) (drop i js) ≡ reservoir (take k slots₀) (drop k xs) js)
+
+pub later-none : (xs : List ℕ) (k : ℕ) (js slots : List ℕ) → Later xs k js slots slots 0
+later-none xs k js slots = let e : k + 0 ≡ k = omega arith in (omega arith, refl, refl, rw e)
+
+module _ (xs : List ℕ) (k : ℕ) (js slots₀ slots : List ℕ) (i : ℕ) (v : Later xs k js slots₀ slots i) where
+  module _ (h : i < length js) (n : k + length js ≡ length xs) (l : k ≤ length slots₀) where
+    records : drop (k + i) xs ≡ getD xs (k + i) 0 ∷ drop (k + (i + 1)) xs
+    records =
+        let e : suc (k + i) ≡ k + (i + 1) = omega arith in
+        drop-cons xs (k + i) 0 (omega arith) ∙ ap (λ (m : ℕ). getD xs (k + i) 0 ∷ drop m xs) e
+
+    series : drop i js ≡ getD js i 0 ∷ drop (i + 1) js
+    series = rw (add-one i) (drop-cons js i 0 h)
+
+    slot-count : length (take k slots) ≡ k
+    slot-count = length-take-le k slots (omega arith)
+
+    turn : reservoir (take k slots) (getD xs (k + i) 0 ∷ drop (k + (i + 1)) xs) (getD js i 0 ∷ drop (i + 1) js)
+        ≡ reservoir (take k slots₀) (drop k xs) js
+    turn = rw (records, series) at (v .3)
+
+    pub later-taken : getD js i 0 < k → Later xs k js slots₀ (set slots (getD js i 0) (getD xs (k + i) 0)) (i + 1)
+    later-taken t =
+        (omega arith, length-set slots _ _ ∙ v .1, drop-set-lt k slots _ _ t ∙ v .2,
+        ap (λ (s : List ℕ). reservoir s (drop (k + (i + 1)) xs) (drop (i + 1) js)) (take-set-lt k slots (getD js i 0) (getD xs (k + i) 0) t)
+        ∙ sym (reservoir-taken (take k slots) (getD xs (k + i) 0) _ (getD js i 0) _ (rw slot-count t)) ∙ turn)
+
+    pub later-passed : k ≤ getD js i 0 → Later xs k js slots₀ slots (i + 1)
+    later-passed t =
+        (omega arith, v .1, v .2, sym (reservoir-passed (take k slots) (getD xs (k + i) 0) _ (getD js i 0) _ (rw slot-count t)) ∙ turn)
+
+  pub later-done : length js ≤ i → slots ≡ reservoir (take k slots₀) (drop k xs) js ++ drop k slots₀
+  later-done h =
+      let front : take k slots ≡ reservoir (take k slots₀) (drop k xs) js
+        = sym (ap (reservoir (take k slots) (drop (k + i) xs)) (drop-of-length-le js h) ∙ reservoir-none (take k slots) (drop (k + i) xs)) ∙ v .3 in
+      sym (take-append-drop k slots) ∙ ap₂ _++_ front (v .2)
+
+-- ---- a local array, its first n places lent: general over the array, so that no proof looks at its 16,384 zeros
+
+pub prefix-count : (array : List ℕ) (n : ℕ) → n ≤ length array → n ≡ length (take n array)
+prefix-count array n h = sym (length-take-le n array h)
+
+module _ (array last : List ℕ) (n : ℕ) (h : n ≤ length array) where
+  pub array-kept : length last ≡ length (take n array) → length (last ++ drop n array) ≡ length array
+  array-kept e = length-front array last n e
+
+  pub prefix-back : length last ≡ length (take n array) → take n (last ++ drop n array) ≡ last
+  prefix-back e = take-at last (drop n array) n (e ∙ sym (prefix-count array n h))
+
+  -- the rolls that were written to the front of it
+  pub prefix-rolls : (vs : List ℕ) → last ≡ vs ++ drop n (take n array) → last ≡ vs
+  prefix-rolls vs e = e ∙ ap (λ (l : List ℕ). vs ++ l) (drop-of-length-le (take n array) {i = n} (omega (arith, prefix-count array n h))) ∙ append-nil vs
+
+-- ---- the slots in the end
+
+pub drawn : (xs slots₀ slots : List ℕ) (k : ℕ) (js out : List ℕ) → k ≤ length xs → slots ≡ take k xs ++ drop k slots₀
+    → out ≡ reservoir (take k slots) (drop k xs) js ++ drop k slots → out ≡ reservoir (take k xs) (drop k xs) js ++ drop k slots₀
+drawn xs slots₀ slots k js out h e f =
+    let n : length (take k xs) ≡ k = length-take-le k xs h in
+    f ∙ ap₂ (λ (a b : List ℕ). reservoir a (drop k xs) js ++ b)
+    (ap (take k) e ∙ take-at (take k xs) (drop k slots₀) k n) (ap (drop k) e ∙ drop-at (take k xs) (drop k slots₀) k n)
+
+-- ---- the bounds of a sample
+
+pub bound-count : (bs : List ℕ) (n k : ℕ) → k ≤ n → bs ≡ countup (n - k) (k + 1) → k + length bs ≡ n
+bound-count bs n k h e = omega (arith, ap length e ∙ countup-length (n - k) (k + 1))
+
+pub bounds-no-zero : (bs : List ℕ) (n k : ℕ) → bs ≡ countup (n - k) (k + 1) → hasZero bs ≡ false
+bounds-no-zero bs n k e = ap hasZero e ∙ no-zero (n - k) (k + 1) (omega arith)

@@ -1,0 +1,86 @@
+use mathlib.Core.Path.{_≡_, _∙_, sym, ap}
+use mathlib.Core.List.{List, _++_}
+use Prim.Native.Nat.{ℕ, _^_}
+use lib.ListN.{length, take, drop}
+use borrow.Author.Tests.{le-ltb}
+use Rattle.rolls.specs.Run.{run, trace, rollsOf}
+use Rattle.rolls.specs.Cut.{cut}
+use Rattle.rolls.proofs.Deciding.{in-count, supplied-enough, refused-seen, done-seen}
+use Rattle.draws.specs.Sample.{reservoir}
+use Rattle.draws.proofs.Sampling.{bounds-no-zero}
+use Rattle.draws.proofs.OneSample.{sample-short, sample-done, sample-length}
+use borrow.Author.Needs.{needs}
+use Rattle.draws.proofs.sample.draw_sample.Statement.{statement}
+use Rattle.draws.proofs.sample.draw_sample.Tie as tie
+use Rattle.draws.proofs.sample.draw_sample.Reads as reads
+use Rattle.draws.proofs.sample.draw_sample.Lts as lts
+use Rattle.draws.proofs.sample.fill_slots.Reads as fill-slots-reads
+use Rattle.rolls.proofs.answer.refused_answer.Reads as refused-answer-reads
+use Rattle.rolls.proofs.supply.supply_list.Reads as supply-list-reads
+
+-- src/sample.rt:83:11
+supply-list-requires : tie.Need-supply-list-requires
+supply-list-requires c κs = let s = c .before .before .before .before in
+    (s .pre .0 .0, bounds-no-zero (s .args .bounds .now) (length (s .args .records .now)) (s .args .k) (s .pre .1))
+
+-- src/sample.rt:84:26
+enum-known-next : tie.Need-enum-known-next
+enum-known-next c = search needs
+
+-- src/sample.rt:85:13
+fill-slots-requires : tie.Need-fill-slots-requires
+fill-slots-requires c κs = let n = c .before .before in
+    let s = n .before .before .before .before .before .before .before in
+    let a = s .args in
+    ((s .pre .0 .0, s .pre .0 .1, s .pre .0 .3, s .pre .0 .4),
+    (s .pre .1, supplied-enough (a .start) (run 64 (cut (2 ^ 56) (a .bounds .now)) (a .words .now) (a .start)) _ _
+    (sym (n .before .before .supply-list .ensures) ∙ n .next .given .1) .enough))
+
+-- src/sample.rt:93:25
+enum-known-batch : tie.Need-enum-known-batch
+enum-known-batch c = search needs
+
+-- src/sample.rt:93:36
+refused-answer-requires : tie.Need-refused-answer-requires
+refused-answer-requires c κs = search needs
+
+-- src/sample.rt:77:1
+same-length : tie.Need-same-length
+same-length c = search needs
+
+-- src/sample.rt:77:1
+returns : tie.Need-returns
+returns c = let n = c .before .before .before .before .before in
+    let s = n .before .before .before .before .before .before .before in
+    let a = s .args in
+    let js = rollsOf 64 (cut (2 ^ 56) (a .bounds .now)) (trace (run 64 (cut (2 ^ 56) (a .bounds .now)) (a .words .now) (a .start))) in
+    done-seen _ _ _ _ (a .start) (a .slots .now) _
+    (sample-done (a .words .now) (a .start) (a .records .now) (a .k) (length (a .slots .now))
+    (in-count 0 16384 (length (a .records .now)) (search needs) (s .pre .0 .1)) (in-count 1 (length (a .records .now)) (a .k) (s .pre .0 .2) (s .pre .0 .3))
+    (le-ltb _ _ (s .pre .0 .4)) (s .pre .0 .0) (a .bounds .now) (s .pre .1) _ _ (sym (n .before .before .supply-list .ensures) ∙ n .next .given .1))
+    (c .before .before .fill-slots .ensures
+    ∙ ap (λ (m : ℕ). reservoir (take (a .k) (a .records .now)) (drop (a .k) (a .records .now)) js ++ drop m (a .slots .now)) (sym (sample-length (a .records .now) js (a .k) (s .pre .0 .3))))
+
+-- src/sample.rt:77:1
+returns-2 : tie.Need-returns-2
+returns-2 c = let b = c .before .before in
+    let s = b .before .before .before .before .before .before .before in
+    let a = s .args in
+    refused-seen _ 10 _ _ _ _
+    (sample-short (a .words .now) (a .start) (a .records .now) (a .k) (length (a .slots .now))
+    (in-count 0 16384 (length (a .records .now)) (search needs) (s .pre .0 .1)) (in-count 1 (length (a .records .now)) (a .k) (s .pre .0 .2) (s .pre .0 .3))
+    (le-ltb _ _ (s .pre .0 .4)) (s .pre .0 .0) (a .bounds .now) (s .pre .1) _ (sym (b .before .before .supply-list .ensures) ∙ b .batch .given .1))
+    (c .refused-answer .ensures)
+
+pub draw-sample-spec : {M : Type 1} → statement M
+draw-sample-spec =
+    tie.close
+    (tie.spec
+    supply-list-requires
+    enum-known-next
+    fill-slots-requires
+    enum-known-batch
+    refused-answer-requires
+    same-length
+    returns
+    returns-2)

@@ -1,0 +1,101 @@
+use mathlib.Core.Path.{_≡_, _∙_, sym, ap}
+use Prim.Native.Nat.{ℕ, _+_, _^_, _≤_}
+use native.Mathlib.Omega.{arith}
+use mathlib.Core.List.{List, _++_}
+use native.Mathlib.Nat.{le-refl}
+use lib.ListN.{length, take, drop, replicate, length-replicate}
+use Rattle.rolls.specs.Run.{run, trace, rollsOf}
+use Rattle.rolls.specs.Cut.{cut}
+use Rattle.draws.specs.Sample.{reservoir}
+use Rattle.draws.proofs.Sampling.{prefix-count, array-kept, prefix-back, prefix-rolls, drawn, bound-count, bounds-no-zero}
+use borrow.Author.Needs.{needs}
+use Rattle.draws.proofs.sample.fill_slots.Statement.{statement}
+use Rattle.draws.proofs.sample.fill_slots.Tie as tie
+use Rattle.draws.proofs.sample.fill_slots.Reads as reads
+use Rattle.draws.proofs.sample.fill_slots.Lts as lts
+use Rattle.draws.proofs.sample.take_first.Reads as take-first-reads
+use Rattle.draws.proofs.sample.take_later.Reads as take-later-reads
+use Rattle.rolls.proofs.list.write_list.Reads as write-list-reads
+
+few : (s : tie.Start) → length (s .args .bounds .now) ≤ 16384
+few s = omega (arith, bound-count (s .args .bounds .now) (length (s .args .records .now)) (s .args .k) (s .pre .0 .2) (s .pre .1 .0), s .pre .0 .1)
+
+fits : (s : tie.Start) → length (s .args .bounds .now) ≤ length (replicate {A = ℕ} 16384 0)
+fits s = rw (length-replicate {A = ℕ} 16384 0) (few s)
+
+-- the rolls as they stand in the array after they were written
+written : (w : tie.After-write-list) → take (length (w .before .before .before .before .before .before .args .bounds .now)) (w .write-list .last .1 .1 .1 .0 ++ drop (length (w .before .before .before .before .before .before .args .bounds .now)) (replicate {A = ℕ} 16384 0))
+    ≡ w .write-list .last .1 .1 .1 .0
+written w =
+    let s = w .before .before .before .before .before .before in
+    prefix-back (replicate 16384 0) (w .write-list .last .1 .1 .1 .0) (length (s .args .bounds .now)) (fits s) (w .write-list .kept .1 .1 .1 .0)
+
+-- src/sample.rt:71:38
+array-borrow-prefix-rolls : tie.Need-array-borrow-prefix-rolls
+array-borrow-prefix-rolls c = let s = c .before .before .before .before in few s
+
+-- src/sample.rt:71:38
+slice-aggregate-write-list : tie.Need-slice-aggregate-write-list
+slice-aggregate-write-list c = let s = c .before .before .before .before .before in prefix-count (replicate 16384 0) (length (s .args .bounds .now)) (fits s)
+
+-- src/sample.rt:71:5
+write-list-requires : tie.Need-write-list-requires
+write-list-requires c κs = let s = c .before .before .before .before .before in
+    (s .pre .0 .0, bounds-no-zero (s .args .bounds .now) (length (s .args .records .now)) (s .args .k) (s .pre .1 .0),
+    rw (← prefix-count (replicate 16384 0) (length (s .args .bounds .now)) (fits s)) (le-refl (length (s .args .bounds .now))), s .pre .1 .1)
+
+-- src/sample.rt:72:5
+take-first-requires : tie.Need-take-first-requires
+take-first-requires c κs = search needs
+
+-- src/sample.rt:73:28
+array-share-prefix-rolls : tie.Need-array-share-prefix-rolls
+array-share-prefix-rolls c = let w = c .before .before .before .before .before in
+    let s = w .before .before .before .before .before .before in
+    rw (array-kept (replicate 16384 0) (w .write-list .last .1 .1 .1 .0) (length (s .args .bounds .now)) (fits s) (w .write-list .kept .1 .1 .1 .0)) (fits s)
+
+-- src/sample.rt:73:28
+slice-aggregate-take-later : tie.Need-slice-aggregate-take-later
+slice-aggregate-take-later c = let w = c .before .before .before .before .before .before in
+    let s = w .before .before .before .before .before .before in
+    rw (written w) (prefix-count (replicate 16384 0) (length (s .args .bounds .now)) (fits s) ∙ sym (w .write-list .kept .1 .1 .1 .0))
+
+-- src/sample.rt:73:5
+take-later-requires : tie.Need-take-later-requires
+take-later-requires c κs = let f = c .before .before .before .before in
+    let w = f .before .before .before in
+    let s = w .before .before .before .before .before .before in
+    (ap (λ (m : ℕ). s .args .k + m) (sym (slice-aggregate-take-later (c .before)))
+    ∙ bound-count (s .args .bounds .now) (length (s .args .records .now)) (s .args .k) (s .pre .0 .2) (s .pre .1 .0),
+    omega (arith, f .take-first .kept .1 .1 .0, s .pre .0 .3))
+
+-- src/sample.rt:64:1
+same-length : tie.Need-same-length
+same-length c = search needs
+
+-- src/sample.rt:64:1
+returns : tie.Need-returns
+returns c = let f = c .before .before .before .before .before .before .before in
+    let w = f .before .before .before in
+    let s = w .before .before .before .before .before .before in
+    let a = s .args in
+    let r = run 64 (cut (2 ^ 56) (a .bounds .now)) (a .words .now) (a .start) in
+    drawn (a .records .now) (a .slots .now) (f .take-first .last .1 .1 .0) (a .k) (rollsOf 64 (cut (2 ^ 56) (a .bounds .now)) (trace r)) _
+    (s .pre .0 .2) (f .take-first .ensures)
+    (c .before .before .take-later .ensures
+    ∙ ap (λ (js : List ℕ). reservoir (take (a .k) (f .take-first .last .1 .1 .0)) (drop (a .k) (a .records .now)) js ++ drop (a .k) (f .take-first .last .1 .1 .0))
+    (written w ∙ prefix-rolls (replicate 16384 0) (w .write-list .last .1 .1 .1 .0) (length (a .bounds .now)) (fits s) _ (w .write-list .ensures)))
+
+pub fill-slots-spec : {M : Type 1} → statement M
+fill-slots-spec =
+    tie.close
+    (tie.spec
+    array-borrow-prefix-rolls
+    slice-aggregate-write-list
+    write-list-requires
+    take-first-requires
+    array-share-prefix-rolls
+    slice-aggregate-take-later
+    take-later-requires
+    same-length
+    returns)
