@@ -64,9 +64,13 @@ module _ (L : ℕ) (xs₀ : List ℕ) (m s word : ℕ) (xs : List ℕ) (r bound 
   pub place-turn : (q t : ℕ) → 0 < left → q ≡ bound * r / 2 ^ L → t ≡ bound * r % 2 ^ L
       → Placing L xs₀ m s word (exchange xs q (bound - 1)) t (bound - 1) (left - 1)
   unfolding rolls shuffleWith
-  place-turn q t h e f =
-      (omega (arith, v .0), omega (arith, v .1), length-exchange xs q (bound - 1) ∙ v .2, rw f (mod-lt (bound * r) (pow-pos L)),
-      rw (e, f) (rw (countdown-cons left bound h) at (v .4)))
+  place-turn q t h e f = (
+    omega (arith, v .0),
+    omega (arith, v .1),
+    length-exchange xs q (bound - 1) ∙ v .2,
+    rw f (mod-lt (bound * r) (pow-pos L)),
+    rw (e, f) (rw (countdown-cons left bound h) at (v .4)),
+  )
 
   pub place-done : left ≤ 0 → xs ≡ shuffleWith m (rolls L (countdown s m) word) xs₀
   unfolding countdown rolls shuffleWith

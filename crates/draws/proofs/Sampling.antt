@@ -40,9 +40,11 @@ module _ (bs₀ : List ℕ) (from : ℕ) (bs : List ℕ) (i : ℕ) (v : Counting
   count-turn h =
       let n : ℕ = length bs₀ in
       let e : n - i ≡ suc (n - (i + 1)) = omega arith in
-      let f : from + i + 1 ≡ from + (i + 1) = omega arith in
-      (omega arith, length-set bs i (from + i) ∙ v .1,
-      rw (stored-front bs i (from + i) (omega arith), append-assoc, ← f) (rw e at (v .2)))
+      let f : from + i + 1 ≡ from + (i + 1) = omega arith in (
+        omega arith,
+        length-set bs i (from + i) ∙ v .1,
+        rw (stored-front bs i (from + i) (omega arith), append-assoc, ← f) (rw e at (v .2)),
+      )
 
   pub count-done : length bs₀ ≤ i → bs ≡ countup (length bs₀) from
   unfolding countup
@@ -60,11 +62,13 @@ first-none xs k slots = (omega arith, refl, refl, refl)
 
 module _ (xs : List ℕ) (k : ℕ) (slots₀ slots : List ℕ) (i : ℕ) (v : First xs k slots₀ slots i) where
   pub first-turn : i < k → k ≤ length xs → k ≤ length slots₀ → First xs k slots₀ (set slots i (getD xs i 0)) (i + 1)
-  first-turn h l m =
-      (omega arith, length-set slots i (getD xs i 0) ∙ v .1,
-      stored-front slots i (getD xs i 0) (omega arith) ∙ ap (λ (s : List ℕ). s ++ getD xs i 0 ∷ []) (v .2)
-      ∙ sym (ap (λ (n : ℕ). take n xs) (add-one i) ∙ take-suc xs i 0 (omega arith)),
-      stored-back slots slots₀ i (getD xs i 0) (v .3))
+  first-turn h l m = (
+    omega arith,
+    length-set slots i (getD xs i 0) ∙ v .1,
+    stored-front slots i (getD xs i 0) (omega arith) ∙ ap (λ (s : List ℕ). s ++ getD xs i 0 ∷ []) (v .2)
+        ∙ sym (ap (λ (n : ℕ). take n xs) (add-one i) ∙ take-suc xs i 0 (omega arith)),
+    stored-back slots slots₀ i (getD xs i 0) (v .3),
+  )
 
   pub first-done : k ≤ i → slots ≡ take k xs ++ drop k slots₀
   first-done h =
@@ -115,10 +119,13 @@ module _ (xs : List ℕ) (k : ℕ) (js slots₀ slots : List ℕ) (i : ℕ) (v :
     turn = rw (records, series) at (v .3)
 
     pub later-taken : getD js i 0 < k → Later xs k js slots₀ (set slots (getD js i 0) (getD xs (k + i) 0)) (i + 1)
-    later-taken t =
-        (omega arith, length-set slots _ _ ∙ v .1, drop-set-lt k slots _ _ t ∙ v .2,
-        ap (λ (s : List ℕ). reservoir s (drop (k + (i + 1)) xs) (drop (i + 1) js)) (take-set-lt k slots (getD js i 0) (getD xs (k + i) 0) t)
-        ∙ sym (reservoir-taken (take k slots) (getD xs (k + i) 0) _ (getD js i 0) _ (rw slot-count t)) ∙ turn)
+    later-taken t = (
+      omega arith,
+      length-set slots _ _ ∙ v .1,
+      drop-set-lt k slots _ _ t ∙ v .2,
+      ap (λ (s : List ℕ). reservoir s (drop (k + (i + 1)) xs) (drop (i + 1) js)) (take-set-lt k slots (getD js i 0) (getD xs (k + i) 0) t)
+          ∙ sym (reservoir-taken (take k slots) (getD xs (k + i) 0) _ (getD js i 0) _ (rw slot-count t)) ∙ turn,
+    )
 
     pub later-passed : k ≤ getD js i 0 → Later xs k js slots₀ slots (i + 1)
     later-passed t =
@@ -127,7 +134,7 @@ module _ (xs : List ℕ) (k : ℕ) (js slots₀ slots : List ℕ) (i : ℕ) (v :
   pub later-done : length js ≤ i → slots ≡ reservoir (take k slots₀) (drop k xs) js ++ drop k slots₀
   later-done h =
       let front : take k slots ≡ reservoir (take k slots₀) (drop k xs) js
-        = sym (ap (reservoir (take k slots) (drop (k + i) xs)) (drop-of-length-le js h) ∙ reservoir-none (take k slots) (drop (k + i) xs)) ∙ v .3 in
+      = sym (ap (reservoir (take k slots) (drop (k + i) xs)) (drop-of-length-le js h) ∙ reservoir-none (take k slots) (drop (k + i) xs)) ∙ v .3 in
       sym (take-append-drop k slots) ∙ ap₂ _++_ front (v .2)
 
 -- ---- a local array, its first n places lent: general over the array, so that no proof looks at its 16,384 zeros

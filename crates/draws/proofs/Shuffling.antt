@@ -80,11 +80,14 @@ module _ (words : List ℕ) (start n : ℕ) (top : n ≤ 16384) (to r batch m : 
     supply-hit w place more q =
         let p = hit-within 64 (countdown s m) (plan64 (m - s)) words to batch _ same w place more q (v .0) in
         let o = hit-passed 64 (countdown s m) (plan64 (m - s)) words to batch _ same w place more q in
-        let l = batch-less m s h few e in
-        (omega (arith, p), omega (arith, l, v .1), omega (arith, p, o, v .2),
-        sym (ap (λ (plan : List (List ℕ)). finish to r (runFrom 64 plan words to batch)) (batch-plan m s h few e)
-        ∙ finish-hit 64 (countdown s m) (plan64 (m - s)) words to batch _ same w place more q r)
-        ∙ v .3)
+        let l = batch-less m s h few e in (
+          omega (arith, p),
+          omega (arith, l, v .1),
+          omega (arith, p, o, v .2),
+          sym (ap (λ (plan : List (List ℕ)). finish to r (runFrom 64 plan words to batch)) (batch-plan m s h few e)
+              ∙ finish-hit 64 (countdown s m) (plan64 (m - s)) words to batch _ same w place more q r)
+              ∙ v .3,
+        )
 
     pub supply-short : searched to (find (passes b t) (drop to words) to) ≡ Missing → Short batch ≡ supplied start (run 64 (plan64 n) words start)
     supply-short q =
@@ -130,14 +133,19 @@ module _ (words : List ℕ) (start : ℕ) (xs₀ : List ℕ) (top : length xs₀
     shuffle-turn w place more q ys d =
         let rs : List ℕ = rolls 64 (countdown s m) w in
         let on : Run = runFrom 64 (plan64 (m - s)) words (place + 1) (v .3 .0 + 1) in
-        let len : length rs ≡ s = rolls-length 64 (countdown s m) w ∙ countdown-length s m in
-        (omega (arith, hit-within 64 (countdown s m) (plan64 (m - s)) words to (v .3 .0) _ found-by w place more q (v .0)), omega (arith, v .1),
-        ap length d ∙ length-shuffle m rs xs ∙ v .2,
-        (v .3 .0 + 1, hit-suffices 64 (countdown s m) (plan64 (m - s)) words to (v .3 .0) _ found-by w place more q enough,
-        ap₂ (λ (k : ℕ) (l : List ℕ). shuffleWith (m - k) (rolledBy 64 (plan64 (m - s)) on) l) (sym len) d
-        ∙ sym (shuffle-append m rs (rolledBy 64 (plan64 (m - s)) on) xs)
-        ∙ ap (λ (l : List ℕ). shuffleWith m l xs) (sym (hit-rolled 64 (countdown s m) (plan64 (m - s)) words to (v .3 .0) _ found-by w place more q enough))
-        ∙ (rw (batch-plan m s h small e) at (v .3 .2))))
+        let len : length rs ≡ s = rolls-length 64 (countdown s m) w ∙ countdown-length s m in (
+          omega (arith, hit-within 64 (countdown s m) (plan64 (m - s)) words to (v .3 .0) _ found-by w place more q (v .0)),
+          omega (arith, v .1),
+          ap length d ∙ length-shuffle m rs xs ∙ v .2,
+          (
+            v .3 .0 + 1,
+            hit-suffices 64 (countdown s m) (plan64 (m - s)) words to (v .3 .0) _ found-by w place more q enough,
+            ap₂ (λ (k : ℕ) (l : List ℕ). shuffleWith (m - k) (rolledBy 64 (plan64 (m - s)) on) l) (sym len) d
+                ∙ sym (shuffle-append m rs (rolledBy 64 (plan64 (m - s)) on) xs)
+                ∙ ap (λ (l : List ℕ). shuffleWith m l xs) (sym (hit-rolled 64 (countdown s m) (plan64 (m - s)) words to (v .3 .0) _ found-by w place more q enough))
+                ∙ (rw (batch-plan m s h small e) at (v .3 .2)),
+          ),
+        )
 
   pub shuffle-done : m ≤ 1
       → xs ≡ shuffleWith (length xs₀) (rolledBy 64 (plan64 (length xs₀)) (run 64 (plan64 (length xs₀)) words start)) xs₀

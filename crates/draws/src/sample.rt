@@ -1,13 +1,11 @@
 // The sample: a reservoir with batched rolls. First it is known that the words suffice for every batch, then slots are written.
-use rolls::answer::refused_answer;
+use super::shuffle::MAX_RECORDS;
 use rolls::answer::Answer;
+use rolls::answer::refused_answer;
 use rolls::list::write_list;
 use rolls::refusal;
-use rolls::supply::supply_list;
 use rolls::supply::Supply;
-
-use super::shuffle::MAX_RECORDS;
-
+use rolls::supply::supply_list;
 ghost use mathlib.Core.Path.{_≡_};
 ghost use mathlib.Core.Bool.{true};
 ghost use mathlib.Core.List.{_++_};
@@ -61,7 +59,14 @@ pub fn take_later(records: &[u32], k: usize, rolls: &[u64], slots: &mut [u32])
 }
 
 // Draws into the slots, where it is known that the words suffice for the bounds.
-pub fn fill_slots(words: &[u64], start: usize, records: &[u32], k: usize, bounds: &[u64], slots: &mut [u32])
+pub fn fill_slots(
+    words: &[u64],
+    start: usize,
+    records: &[u32],
+    k: usize,
+    bounds: &[u64],
+    slots: &mut [u32],
+)
     requires { ⌜ (start ≤ length (now words)) × (length (now records) ≤ 16384) × (k ≤ length (now records)) × (k ≤ length (now slots)) ⌝ }
     requires { ⌜ (now bounds ≡ countup (length (now records) - k) (k + 1)) × (suffices (run 64 (cut (2 ^ 56) (now bounds)) (now words) start) ≡ true) ⌝ }
     ensures { λ r. ⌜ now (slots .exit) ≡ reservoir (take k (now (records .entry))) (drop k (now (records .entry))) (rollsOf 64 (cut (2 ^ 56) (now (bounds .entry))) (trace (run 64 (cut (2 ^ 56) (now (bounds .entry))) (now (words .entry)) start))) ++ drop k (now (slots .entry)) ⌝ }
@@ -74,7 +79,14 @@ pub fn fill_slots(words: &[u64], start: usize, records: &[u32], k: usize, bounds
 }
 
 // The sample with its bounds laid out, where no refusal before number 10 applies.
-pub fn draw_sample(words: &[u64], start: usize, records: &[u32], k: usize, bounds: &[u64], slots: &mut [u32]) -> Answer
+pub fn draw_sample(
+    words: &[u64],
+    start: usize,
+    records: &[u32],
+    k: usize,
+    bounds: &[u64],
+    slots: &mut [u32],
+) -> Answer
     requires { ⌜ (start ≤ length (now words)) × (length (now records) ≤ 16384) × (0 < k) × (k ≤ length (now records)) × (k ≤ length (now slots)) ⌝ }
     requires { ⌜ now bounds ≡ countup (length (now records) - k) (k + 1) ⌝ }
     ensures answer { λ r. ⌜ r ≡ shown start (sample w64 (now (words .entry)) start (now (records .entry)) k (length (now (slots .entry)))) ⌝ }
@@ -101,7 +113,13 @@ pub fn draw_sample(words: &[u64], start: usize, records: &[u32], k: usize, bound
 // 16,384 records, 3 k is 0 or above n, 6 fewer than k slots, 9 start above the number of words, 10 the words end before some batch
 // has one; the slots are then exactly what they were. Two passes over the words, one multiplication for each word looked at and one
 // for each record past k. Of 101, 205, 309 with k = 1 and words 0, 1 it takes 309: next is 2 and one word is rejected.
-pub fn sample_records(words: &[u64], start: usize, records: &[u32], k: usize, slots: &mut [u32]) -> Answer
+pub fn sample_records(
+    words: &[u64],
+    start: usize,
+    records: &[u32],
+    k: usize,
+    slots: &mut [u32],
+) -> Answer
     ensures answer { λ r. ⌜ r ≡ shown start (sample w64 (now (words .entry)) start (now (records .entry)) k (length (now (slots .entry)))) ⌝ }
     ensures slots { λ r. ⌜ now (slots .exit) ≡ left (now (slots .entry)) (sample w64 (now (words .entry)) start (now (records .entry)) k (length (now (slots .entry)))) ⌝ }
 {

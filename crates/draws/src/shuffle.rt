@@ -2,13 +2,12 @@
 use arithmetic::bounds::threshold_of;
 use arithmetic::wide::high;
 use arithmetic::wide::low;
-use rolls::answer::refused_answer;
 use rolls::answer::Answer;
+use rolls::answer::refused_answer;
 use rolls::refusal;
-use rolls::search::find_word;
 use rolls::search::Search;
+use rolls::search::find_word;
 use rolls::supply::Supply;
-
 ghost use mathlib.Core.Path.{_≡_};
 ghost use mathlib.Core.Bool.{true};
 ghost use Prim.Native.Nat.{_≤_, _<_, _^_};

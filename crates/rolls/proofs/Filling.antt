@@ -61,14 +61,20 @@ module _ (words : List ℕ) (start : ℕ) (bs out₀ out : List ℕ) (to at : �
         let plan : List (List ℕ) = cut (2 ^ 56) (drop (at + length d) bs) in
         let rest : cut (2 ^ 56) (drop at bs) ≡ batch ∷ plan = rw n (batch-rest bs at h) in
         let k : suffices (runFrom 64 (batch ∷ plan) words to (v .4 .0)) ≡ true = rw rest at (v .4 .1) in
-        rw (wrote-d, end)
-        (omega (arith, hit-within 64 batch plan words to (v .4 .0) _ same w place m s (v .0)), omega (arith, n, batch-within bs at h),
-        wrote-length out d at fits ∙ v .2, wrote-back out d at fits ∙ drop-more out out₀ at (length d) (v .3),
-        (v .4 .0 + 1, hit-suffices 64 batch plan words to (v .4 .0) _ same w place m s k,
-        ap (λ (x : List ℕ). x ++ rolledBy 64 plan (runFrom 64 plan words (place + 1) (v .4 .0 + 1))) (wrote-front out d at fits)
-        ∙ append-assoc (take at out) d _
-        ∙ ap (λ (x : List ℕ). take at out ++ x) (sym (hit-rolled 64 batch plan words to (v .4 .0) _ same w place m s k))
-        ∙ (rw rest at (v .4 .2))))
+        rw (wrote-d, end) (
+          omega (arith, hit-within 64 batch plan words to (v .4 .0) _ same w place m s (v .0)),
+          omega (arith, n, batch-within bs at h),
+          wrote-length out d at fits ∙ v .2,
+          wrote-back out d at fits ∙ drop-more out out₀ at (length d) (v .3),
+          (
+            v .4 .0 + 1,
+            hit-suffices 64 batch plan words to (v .4 .0) _ same w place m s k,
+            ap (λ (x : List ℕ). x ++ rolledBy 64 plan (runFrom 64 plan words (place + 1) (v .4 .0 + 1))) (wrote-front out d at fits)
+                ∙ append-assoc (take at out) d _
+                ∙ ap (λ (x : List ℕ). take at out ++ x) (sym (hit-rolled 64 batch plan words to (v .4 .0) _ same w place m s k))
+                ∙ (rw rest at (v .4 .2)),
+          ),
+        )
 
   pub fill-done : length bs ≤ at → out ≡ whole words bs start ++ drop (length bs) out₀
   unfolding cut runFrom rollsOf

@@ -41,11 +41,15 @@ module _ (words : List ℕ) (start : ℕ) (bs : List ℕ) (to r batch at : ℕ) 
         let plan : List (List ℕ) = cut (2 ^ 56) (drop (c .end) bs) in
         let b = hit-within 64 (batchAt bs at) plan words to batch _ same w place m s (v .0) in
         let n = hit-passed 64 (batchAt bs at) plan words to batch _ same w place m s in
-        let p = cut-place bs at h z c e in
-        (omega (arith, b), p .1, omega (arith, b, n), omega (arith, p .0),
-        sym (ap (λ (plan : List (List ℕ)). finish to r (runFrom 64 plan words to batch)) plan-here
-        ∙ finish-hit 64 (batchAt bs at) _ words to batch _ same w place m s r)
-        ∙ v .4)
+        let p = cut-place bs at h z c e in (
+          omega (arith, b),
+          p .1,
+          omega (arith, b, n),
+          omega (arith, p .0),
+          sym (ap (λ (plan : List (List ℕ)). finish to r (runFrom 64 plan words to batch)) plan-here
+              ∙ finish-hit 64 (batchAt bs at) _ words to batch _ same w place m s r)
+              ∙ v .4,
+        )
 
     pub supply-short : searched to (find (passes (c .product) t) (drop to words) to) ≡ Missing
         → Short batch ≡ supplied start (run 64 (cut (2 ^ 56) bs) words start)

@@ -31,10 +31,14 @@ enum-known-next c = search needs
 fill-slots-requires : tie.Need-fill-slots-requires
 fill-slots-requires c κs = let n = c .before .before in
     let s = n .before .before .before .before .before .before .before in
-    let a = s .args in
-    ((s .pre .0 .0, s .pre .0 .1, s .pre .0 .3, s .pre .0 .4),
-    (s .pre .1, supplied-enough (a .start) (run 64 (cut (2 ^ 56) (a .bounds .now)) (a .words .now) (a .start)) _ _
-    (sym (n .before .before .supply-list .ensures) ∙ n .next .given .1) .enough))
+    let a = s .args in (
+      (s .pre .0 .0, s .pre .0 .1, s .pre .0 .3, s .pre .0 .4),
+      (
+        s .pre .1,
+        supplied-enough (a .start) (run 64 (cut (2 ^ 56) (a .bounds .now)) (a .words .now) (a .start)) _ _
+            (sym (n .before .before .supply-list .ensures) ∙ n .next .given .1) .enough,
+      ),
+    )
 
 -- src/sample.rt:93:25
 enum-known-batch : tie.Need-enum-known-batch

@@ -40,9 +40,12 @@ slice-aggregate-write-list c = let s = c .before .before .before .before .before
 
 -- src/sample.rt:71:5
 write-list-requires : tie.Need-write-list-requires
-write-list-requires c κs = let s = c .before .before .before .before .before in
-    (s .pre .0 .0, bounds-no-zero (s .args .bounds .now) (length (s .args .records .now)) (s .args .k) (s .pre .1 .0),
-    rw (← prefix-count (replicate 16384 0) (length (s .args .bounds .now)) (fits s)) (le-refl (length (s .args .bounds .now))), s .pre .1 .1)
+write-list-requires c κs = let s = c .before .before .before .before .before in (
+  s .pre .0 .0,
+  bounds-no-zero (s .args .bounds .now) (length (s .args .records .now)) (s .args .k) (s .pre .1 .0),
+  rw (← prefix-count (replicate 16384 0) (length (s .args .bounds .now)) (fits s)) (le-refl (length (s .args .bounds .now))),
+  s .pre .1 .1,
+)
 
 -- src/sample.rt:72:5
 take-first-requires : tie.Need-take-first-requires
@@ -64,10 +67,11 @@ slice-aggregate-take-later c = let w = c .before .before .before .before .before
 take-later-requires : tie.Need-take-later-requires
 take-later-requires c κs = let f = c .before .before .before .before in
     let w = f .before .before .before in
-    let s = w .before .before .before .before .before .before in
-    (ap (λ (m : ℕ). s .args .k + m) (sym (slice-aggregate-take-later (c .before)))
-    ∙ bound-count (s .args .bounds .now) (length (s .args .records .now)) (s .args .k) (s .pre .0 .2) (s .pre .1 .0),
-    omega (arith, f .take-first .kept .1 .1 .0, s .pre .0 .3))
+    let s = w .before .before .before .before .before .before in (
+      ap (λ (m : ℕ). s .args .k + m) (sym (slice-aggregate-take-later (c .before)))
+          ∙ bound-count (s .args .bounds .now) (length (s .args .records .now)) (s .args .k) (s .pre .0 .2) (s .pre .1 .0),
+      omega (arith, f .take-first .kept .1 .1 .0, s .pre .0 .3),
+    )
 
 -- src/sample.rt:64:1
 same-length : tie.Need-same-length

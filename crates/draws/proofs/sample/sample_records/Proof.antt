@@ -122,9 +122,10 @@ slice-aggregate-draw-sample c = let w = c .before .before in
 -- src/sample.rt:127:5
 draw-sample-requires : tie.Need-draw-sample-requires
 draw-sample-requires c κs = let w = c .before .before .before in
-    let e = w .before .before in
-    ((e .if5 .left, e .before .before .before .before .if1 .left, e .before .before .before .if2 .left, e .before .before .if3 .left, e .before .if4 .left),
-    laid w ∙ w .count-up .ensures ∙ ap (λ (m : ℕ). countup m (e .before .before .before .before .before .before .before .before .args .k + 1)) (sym (prefix-count (replicate 16384 0) (bound-total e) (fits e))))
+    let e = w .before .before in (
+      (e .if5 .left, e .before .before .before .before .if1 .left, e .before .before .before .if2 .left, e .before .before .if3 .left, e .before .if4 .left),
+      laid w ∙ w .count-up .ensures ∙ ap (λ (m : ℕ). countup m (e .before .before .before .before .before .before .before .before .args .k + 1)) (sym (prefix-count (replicate 16384 0) (bound-total e) (fits e))),
+    )
 
 -- src/sample.rt:104:1
 same-length : tie.Need-same-length

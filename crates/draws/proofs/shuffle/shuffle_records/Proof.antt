@@ -44,10 +44,12 @@ enum-known-next c = search needs
 -- src/shuffle.rt:164:13
 place-all-requires : tie.Need-place-all-requires
 place-all-requires c κs = let e = c .before .before .before .before .before in
-    let a = e .before .before .before .before .args in
-    (e .if2 .left, e .before .if1 .left,
-    supplied-enough (a .start) (run 64 (shufflePlan size64 (length (a .records .now))) (a .words .now) (a .start)) _ _
-    (sym (c .before .before .before .before .supply-shuffle .ensures) ∙ c .before .before .next .given .1) .enough)
+    let a = e .before .before .before .before .args in (
+      e .if2 .left,
+      e .before .if1 .left,
+      supplied-enough (a .start) (run 64 (shufflePlan size64 (length (a .records .now))) (a .words .now) (a .start)) _ _
+          (sym (c .before .before .before .before .supply-shuffle .ensures) ∙ c .before .before .next .given .1) .enough,
+    )
 
 -- src/shuffle.rt:172:25
 enum-known-batch : tie.Need-enum-known-batch

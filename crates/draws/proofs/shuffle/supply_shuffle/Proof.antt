@@ -31,9 +31,10 @@ batch-size-requires c κs = search needs
 
 -- src/shuffle.rt:71:13
 product-down-requires : tie.Need-product-down-requires Inv-loop μ-loop
-product-down-requires c κs = let b = c .before .before in
-    (omega (arith, batch-less (b .loop .m) (c .batch-size .result) (c .before .loop-test .taken) (few b) (c .batch-size .ensures)),
-    batch-fits (b .loop .m) (c .batch-size .result) (c .before .loop-test .taken) (few b) (c .batch-size .ensures) .1)
+product-down-requires c κs = let b = c .before .before in (
+  omega (arith, batch-less (b .loop .m) (c .batch-size .result) (c .before .loop-test .taken) (few b) (c .batch-size .ensures)),
+  batch-fits (b .loop .m) (c .batch-size .result) (c .before .loop-test .taken) (few b) (c .batch-size .ensures) .1,
+)
 
 -- src/shuffle.rt:72:41
 threshold-of-requires : tie.Need-threshold-of-requires Inv-loop μ-loop

@@ -1,0 +1,74 @@
+-- A draw sheet: its six numbers, its two areas, and when it is sound. A sheet is a list of bytes.
+--
+--   little bs              the number whose bytes are bs, low byte first
+--   number size at s       the number of so many bytes at a place of the sheet
+--   Numbers, numbers s     the six 32-bit numbers that a sheet starts with
+--   entries size c at s    the c numbers of an area, each of so many bytes, from a place on
+--   wordsOf s, recordsOf s the words and the records of a sheet
+--   wordsEnd, recordsEnd   the place after an area's last byte
+--   Sound s                the sheet is sound, as document 01 says it
+--   isSound s              the same, as a test
+use mathlib.Core.Bool.{Bool, not, _&&_}
+use mathlib.Core.List.{List, [], _∷_}
+use Prim.Native.Nat.{ℕ, zero, suc, _+_, _*_, _<_, _≤_, min, max}
+use lib.Dec.{leb, ltb}
+use lib.ListN.{length, take, drop}
+use Rattle.rolls.specs.Outcome.{outside}
+
+unfoldable pub little : List ℕ → ℕ
+little [] = 0
+little (b ∷ bs) = b + 256 * little bs
+
+abbrev pub number : ℕ → ℕ → List ℕ → ℕ
+number size at s = little (take size (drop at s))
+
+pub record Numbers : Type 0 where
+  pub words : ℕ
+  pub wordsAt : ℕ
+  pub records : ℕ
+  pub recordsAt : ℕ
+  pub k : ℕ
+  pub w : ℕ
+
+-- count of words, byte offset of words, count of records, byte offset of records, k, w
+abbrev pub numbers : List ℕ → Numbers
+numbers s = record {
+  words = number 4 0 s;
+  wordsAt = number 4 4 s;
+  records = number 4 8 s;
+  recordsAt = number 4 12 s;
+  k = number 4 16 s;
+  w = number 4 20 s;
+}
+
+unfoldable pub entries : ℕ → ℕ → ℕ → List ℕ → List ℕ
+entries size zero at s = []
+entries size (suc c) at s = number size at s ∷ entries size c (at + size) s
+
+-- Words take 8 bytes, records 4.
+abbrev pub wordsOf : List ℕ → List ℕ
+wordsOf s = entries 8 (numbers s .words) (numbers s .wordsAt) s
+
+abbrev pub recordsOf : List ℕ → List ℕ
+recordsOf s = entries 4 (numbers s .records) (numbers s .recordsAt) s
+
+abbrev pub wordsEnd : Numbers → ℕ
+wordsEnd h = h .wordsAt + 8 * h .words
+
+abbrev pub recordsEnd : Numbers → ℕ
+recordsEnd h = h .recordsAt + 4 * h .records
+
+-- Sound exactly when its length is allowed, each offset is at least 24, each area ends within the sheet, and the areas share no byte.
+pub record Sound (s : List ℕ) : Type 0 where
+  pub allowed : (24 ≤ length s) × (length s ≤ 65535)
+  pub offsets : (24 ≤ numbers s .wordsAt) × (24 ≤ numbers s .recordsAt)
+  pub within : (wordsEnd (numbers s) ≤ length s) × (recordsEnd (numbers s) ≤ length s)
+  pub apart : (byte : ℕ) → (numbers s .wordsAt ≤ byte) × (byte < wordsEnd (numbers s))
+      → (numbers s .recordsAt ≤ byte) × (byte < recordsEnd (numbers s)) → ⊥
+
+-- Two areas share a byte where the later start is before the earlier end; an empty area shares none, wherever it lies.
+abbrev pub isSound : List ℕ → Bool
+isSound s =
+    let h : Numbers = numbers s in
+    not (outside 24 65535 (length s)) && leb 24 (h .wordsAt) && leb 24 (h .recordsAt) && leb (wordsEnd h) (length s)
+    && leb (recordsEnd h) (length s) && not (ltb (max (h .wordsAt) (h .recordsAt)) (min (wordsEnd h) (recordsEnd h)))
