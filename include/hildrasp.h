@@ -1,5 +1,5 @@
 /*
- * The C face of Hildrasp: random words from outside become dice rolls.
+ * The C face of Hildrasp: random words from outside become dice rolls, shuffles and samples.
  *
  * A list is a pointer and a count. Every call is answered for every input. `no` is 0 where nothing is refused, and
  * else the number of the refusal; a refusal returns the start place as given in `next` (0 where the call takes none)
@@ -68,6 +68,19 @@ hildrasp_answer hildrasp_roll_list(const uint64_t *words, size_t word_count, siz
 /* Names the words that give these rolls, accepted. Refusals: 2, 4, 5, 7. */
 hildrasp_behind hildrasp_words_behind(const uint64_t *bounds, size_t bound_count,
                                       const uint64_t *rolls, size_t roll_count);
+
+/* Shuffles 0 to 16,384 records in the lent list itself. Refusals: 2, 9, 10. */
+hildrasp_answer hildrasp_shuffle(const uint64_t *words, size_t word_count, size_t start,
+                                 uint32_t *records, size_t record_count);
+
+/* Samples k of 0 to 16,384 records into the lent list `slots`. Refusals: 2, 3, 6, 9, 10. */
+hildrasp_answer hildrasp_sample(const uint64_t *words, size_t word_count, size_t start,
+                                const uint32_t *records, size_t record_count, size_t k,
+                                uint32_t *slots, size_t room);
+
+/* Names the rolls that shuffle 0, 1, .., n - 1 into this order, in the lent list `rolls`. Refusals: 2, 6, 8. */
+hildrasp_answer hildrasp_rolls_behind(const uint32_t *order, size_t order_count,
+                                      uint64_t *rolls, size_t room);
 
 #ifdef __cplusplus
 }

@@ -1,5 +1,5 @@
-//! Hildrasp: a draw that can be checked. Random words from outside become dice rolls, by Lemire's batched rejection
-//! method, and every draw can be done again from its words.
+//! Hildrasp: a draw that can be checked. Random words from outside become dice rolls, shuffles and samples, by Lemire's
+//! batched rejection method, the Fisher-Yates shuffle and the reservoir, and every draw can be done again from its words.
 //!
 //! This is the safe Rust face of the proved library. An operation that uses words is lent the whole list and a start
 //! place counted from 0. Every call is answered for every input: with a result, or with a [`Refusal`], and then each
@@ -125,6 +125,87 @@ pub fn words_behind(bounds: &[u64], rolls: &[u64]) -> Result<RangeInclusive<u64>
         Some(refusal) => Err(refusal),
         None => Ok(first..=last),
     }
+}
+
+/// Shuffles 0 to 16,384 records in the lent list itself (Fisher-Yates, rolled in batches).
+///
+/// With m records still to place, the batch size s is 4 for m from 2,049, 5 for m from 513 to 2,048, 6 for m from 7 to
+/// 512, and m - 1 for m from 2 to 6. The bounds are m, m - 1, .., m + 1 - s; then, for i = 1..s in turn, the record at
+/// place roll i is exchanged with that at place m - i.
+///
+/// **Words used:** from `start` in list order, for each batch up to its first accepted one; none for 0 or 1 records.
+///
+/// **Refusals, in this order:** 2 [`Count`](Refusal::Count), 9 [`Start`](Refusal::Start),
+/// 10 [`Words`](Refusal::Words). The records then stay where they were, also where words run out at the last batch.
+///
+/// **Cost:** linear in the records and the words used, with a division for each batch.
+///
+/// The answer to the same words, start and records never changes.
+///
+/// ```
+/// // Three records are one batch; it rejects the word 0.
+/// let mut records = [0, 1, 2];
+/// let used = hildrasp::shuffle(&[0, 1], 0, &mut records)?;
+/// assert_eq!(records, [1, 2, 0]);
+/// assert_eq!(used, hildrasp::Used { next: 2, rejected: 1 });
+///
+/// // Eight records are two batches, and one word does for the first alone.
+/// let mut records = [0, 1, 2, 3, 4, 5, 6, 7];
+/// assert_eq!(hildrasp::shuffle(&[1], 0, &mut records), Err(hildrasp::Refusal::Words { batch: 1 }));
+/// assert_eq!(records, [0, 1, 2, 3, 4, 5, 6, 7]);
+/// # Ok::<(), hildrasp::Refusal>(())
+/// ```
+pub fn shuffle(words: &[u64], start: usize, records: &mut [u32]) -> Result<Used, Refusal> {
+    used(raw::shuffle(words, start, records))
+}
+
+/// Samples k of n records into the first k places of the lent list `slots`; places past k stay. There are up to 16,384
+/// records and k is 1 to n.
+///
+/// The first k records are put in slots 0..k - 1. For each place i from k to n - 1, j is rolled with bound i + 1; if j is
+/// below k, slot j gets record i. The bounds k + 1, .., n are cut as [`roll_list`] cuts them.
+///
+/// **Words used:** from `start` in list order, for each batch up to its first accepted one; none where k is n.
+///
+/// **Refusals, in this order:** 2 [`Count`](Refusal::Count), 3 [`Sample`](Refusal::Sample), 6 [`Room`](Refusal::Room),
+/// 9 [`Start`](Refusal::Start), 10 [`Words`](Refusal::Words). The slots then stay the same.
+///
+/// **Cost:** linear in the records and the words used, with a division for each batch.
+///
+/// The answer to the same words, start, records and k never changes.
+///
+/// ```
+/// // One of three records: word 0 is rejected, and word 1 rolls 0 for record 205 and again for record 309.
+/// let mut slots = [0];
+/// let used = hildrasp::sample(&[0, 1], 0, &[101, 205, 309], 1, &mut slots)?;
+/// assert_eq!(slots, [309]);
+/// assert_eq!(used, hildrasp::Used { next: 2, rejected: 1 });
+/// # Ok::<(), hildrasp::Refusal>(())
+/// ```
+pub fn sample(words: &[u64], start: usize, records: &[u32], k: usize, slots: &mut [u32]) -> Result<Used, Refusal> {
+    used(raw::sample(words, start, records, k, slots))
+}
+
+/// Names the rolls behind an order: the n - 1 rolls, in shuffle order, that shuffle 0, 1, .., n - 1 into it (none for n of
+/// 0). They go into the front of the lent list `rolls`; places past them stay. The order holds up to 16,384 places.
+///
+/// **Words used:** none.
+///
+/// **Refusals, in this order:** 2 [`Count`](Refusal::Count), 6 [`Room`](Refusal::Room), 8 [`Order`](Refusal::Order).
+/// The lent list then stays the same.
+///
+/// **Cost:** linear in n.
+///
+/// The answer to the same order never changes.
+///
+/// ```
+/// let mut rolls = [9; 2];
+/// hildrasp::rolls_behind(&[1, 2, 0], &mut rolls)?;
+/// assert_eq!(rolls, [0, 0]);
+/// # Ok::<(), hildrasp::Refusal>(())
+/// ```
+pub fn rolls_behind(order: &[u32], rolls: &mut [u64]) -> Result<(), Refusal> {
+    used(raw::rolls_behind(order, rolls)).map(|_| ())
 }
 
 /// The words that a call used, or its refusal.

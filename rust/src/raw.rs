@@ -67,6 +67,27 @@ extern "C" {
     ) -> Answer;
 
     fn hildrasp_words_behind(bounds: *const u64, bound_count: usize, rolls: *const u64, roll_count: usize) -> Behind;
+
+    fn hildrasp_shuffle(
+        words: *const u64,
+        word_count: usize,
+        start: usize,
+        records: *mut u32,
+        record_count: usize,
+    ) -> Answer;
+
+    fn hildrasp_sample(
+        words: *const u64,
+        word_count: usize,
+        start: usize,
+        records: *const u32,
+        record_count: usize,
+        k: usize,
+        slots: *mut u32,
+        room: usize,
+    ) -> Answer;
+
+    fn hildrasp_rolls_behind(order: *const u32, order_count: usize, rolls: *mut u64, room: usize) -> Answer;
 }
 
 // Safety, for every call below: each pointer and the count beside it are those of one slice, which lives through the
@@ -95,4 +116,30 @@ pub fn roll_list(words: &[u64], start: usize, bounds: &[u64], rolls: &mut [u64])
 /// Names the words behind rolls.
 pub fn words_behind(bounds: &[u64], rolls: &[u64]) -> Behind {
     unsafe { hildrasp_words_behind(bounds.as_ptr(), bounds.len(), rolls.as_ptr(), rolls.len()) }
+}
+
+/// Shuffles records in the lent list itself.
+pub fn shuffle(words: &[u64], start: usize, records: &mut [u32]) -> Answer {
+    unsafe { hildrasp_shuffle(words.as_ptr(), words.len(), start, records.as_mut_ptr(), records.len()) }
+}
+
+/// Samples k records into the lent list `slots`.
+pub fn sample(words: &[u64], start: usize, records: &[u32], k: usize, slots: &mut [u32]) -> Answer {
+    unsafe {
+        hildrasp_sample(
+            words.as_ptr(),
+            words.len(),
+            start,
+            records.as_ptr(),
+            records.len(),
+            k,
+            slots.as_mut_ptr(),
+            slots.len(),
+        )
+    }
+}
+
+/// Names the rolls behind an order in the lent list `rolls`.
+pub fn rolls_behind(order: &[u32], rolls: &mut [u64]) -> Answer {
+    unsafe { hildrasp_rolls_behind(order.as_ptr(), order.len(), rolls.as_mut_ptr(), rolls.len()) }
 }

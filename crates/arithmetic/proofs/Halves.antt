@@ -3,7 +3,7 @@ use mathlib.Core.Path.{_≡_, ap₂, _∙_, sym, ap}
 use Prim.Native.Nat.{ℕ, _+_, _*_, _/_, _%_, _^_, _<_, _≤_}
 use native.Mathlib.Nat.{div-add-mod', mul-le-mul}
 use native.Mathlib.Omega.{arith}
-use lib.Arith.{digits-div, digits-mod}
+use lib.Arith.{digits-div}
 
 -- two halves multiply to at most (2^32 - 1)^2
 halves : {x y : ℕ} → x < 2 ^ 32 → y < 2 ^ 32 → x * y ≤ 18446744065119617025

@@ -1,7 +1,7 @@
 -- Long division in base 2, one bit a turn. Assumes nothing.
-use mathlib.Core.Path.{_≡_, refl, sym, ap, _∙_}
+use mathlib.Core.Path.{_≡_, sym, ap, _∙_}
 use Prim.Native.Nat.{ℕ, zero, suc, _+_, _-_, _*_, _/_, _%_, _^_, _<_, _≤_}
-use native.Mathlib.Nat.{div-add-mod', mod-lt, pow-suc, pow-zero, mod-one, mul-le-mul-left, not-suc-le-zero}
+use native.Mathlib.Nat.{div-add-mod', mod-lt, pow-suc, mod-one, mul-le-mul-left, not-suc-le-zero}
 use native.Mathlib.Omega.{arith}
 use lib.Arith.{digits-div, digits-mod}
 use lib.Pow.{mod-pow-add, pow-pos}

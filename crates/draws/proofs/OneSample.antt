@@ -1,7 +1,7 @@
 -- A sample, refusal by refusal. Assumes nothing.
 use mathlib.Core.Path.{_≡_, refl, sym, ap, ap₂, _∙_}
 use mathlib.Core.Bool.{Bool, true, false}
-use mathlib.Core.List.{List, [], _∷_, _++_}
+use mathlib.Core.List.{List, [], _∷_}
 use Prim.Native.Nat.{ℕ, _+_, _-_, _^_, _<_, _≤_}
 use lib.Dec.{ltb}
 use lib.ListN.{length, take, drop, set, length-set}
@@ -9,7 +9,7 @@ use lib.Seq.{length-take-le}
 use Rattle.arithmetic.specs.Width.{w64}
 use Rattle.rolls.specs.Run.{Run, run, trace, rollsOf}
 use Rattle.rolls.specs.Cut.{cut}
-use Rattle.rolls.specs.Outcome.{Outcome, refused, done, no, noWord, decide, used, outside}
+use Rattle.rolls.specs.Outcome.{refused, done, no, noWord, decide, used, outside}
 use Rattle.rolls.specs.Inner.{supplied}
 use Rattle.rolls.specs.declared.supply.Supply.the-variants.{Enough, Short}
 use Rattle.rolls.proofs.Deciding.{decide-here, decide-past, no-start, no-words, words-done, supplied-enough, supplied-short}

@@ -8,7 +8,7 @@ use native.Mathlib.Omega.{arith}
 use lib.ListN.{length, drop, drop-of-length-le}
 use Rattle.arithmetic.specs.Width.{size64, w64}
 use Rattle.rolls.specs.Run.{Run, run, trace, rollsOf}
-use Rattle.rolls.specs.Outcome.{Outcome, refused, done, no, noWord, decide, used, outside}
+use Rattle.rolls.specs.Outcome.{refused, done, no, noWord, decide, used, outside}
 use Rattle.rolls.specs.Inner.{supplied}
 use Rattle.rolls.specs.declared.supply.Supply.the-variants.{Enough, Short}
 use Rattle.rolls.proofs.Deciding.{decide-here, decide-past, no-start, no-words, words-done, supplied-enough, supplied-short}

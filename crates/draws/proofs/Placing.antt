@@ -2,9 +2,9 @@
 --
 --   Growing, grow-turn, grow-done       the product of m, m - 1, .., s of them
 --   Placing, place-turn, place-done     the records of one batch are placed, one for each bound
-use mathlib.Core.Path.{_≡_, refl, sym, ap, ap₂, _∙_}
-use mathlib.Core.List.{List, [], _∷_, _++_}
-use Prim.Native.Nat.{ℕ, zero, suc, _+_, _-_, _*_, _/_, _%_, _^_, _<_, _≤_}
+use mathlib.Core.Path.{_≡_, refl, ap, _∙_}
+use mathlib.Core.List.{List, _∷_}
+use Prim.Native.Nat.{ℕ, zero, suc, _-_, _*_, _/_, _%_, _^_, _<_, _≤_}
 use native.Mathlib.Nat.{not-suc-le-zero, le-mul-of-pos-right, mod-lt, div-lt-iff-lt-mul, mul-lt-mul-of-pos-left}
 use native.Mathlib.Omega.{arith}
 use lib.ListN.{length}

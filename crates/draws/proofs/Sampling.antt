@@ -5,13 +5,12 @@
 --   Later, later-taken, later-passed     the later records, each with its roll
 --   no-zero                              no bound of a sample is 0
 use mathlib.Core.Path.{_≡_, refl, sym, ap, ap₂, _∙_}
-use mathlib.Core.Bool.{Bool, true, false, _||_}
+use mathlib.Core.Bool.{false, _||_}
 use mathlib.Core.List.{List, [], _∷_, _++_, append-assoc, append-nil}
 use Prim.Native.Nat.{ℕ, zero, suc, _+_, _-_, _<_, _≤_}
 use native.Mathlib.Nat.{sub-zero}
 use native.Mathlib.Numerals.{add-one}
 use native.Mathlib.Omega.{arith}
-use lib.Dec.{ltb, eqb}
 use lib.ListN.{length, take, drop, set, getD, length-set, take-append-drop, drop-of-length-le}
 use lib.Seq.{take-suc, take-all, take-at, drop-at, drop-cons, take-set-lt, drop-set-lt, length-take-le, length-front}
 use borrow.Author.Tests.{lt-ltb, le-ltb, ne-eqb}

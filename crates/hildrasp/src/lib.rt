@@ -8,6 +8,7 @@ ghost use lib.ListN.{length};
 ghost use Rattle.arithmetic.specs.Width.{w64};
 ghost use Rattle.rolls.specs.Outcome.{shown, shownBatch, shownBehind, left};
 ghost use Rattle.rolls.specs.Operations.{rollBatch, rollList, wordsBehind};
+ghost use Rattle.draws.specs.Operations.{shuffle, sample, rollsBehind};
 
 #[no_mangle]
 pub extern "C" fn hildrasp_roll_batch(words: &[u64], start: usize, bounds: &[u64]) -> Batch
@@ -34,4 +35,26 @@ pub extern "C" fn hildrasp_words_behind(bounds: &[u64], rolls: &[u64]) -> Behind
     ensures { λ r. ⌜ r ≡ shownBehind (wordsBehind w64 (now (bounds .entry)) (now (rolls .entry))) ⌝ }
 {
     rolls::behind::words_behind(bounds, rolls)
+}
+
+#[no_mangle]
+pub extern "C" fn hildrasp_shuffle(words: &[u64], start: usize, records: &mut [u32]) -> Answer
+    ensures answer { λ r. ⌜ r ≡ shown start (shuffle w64 (now (words .entry)) start (now (records .entry))) ⌝ }
+    ensures records { λ r. ⌜ now (records .exit) ≡ left (now (records .entry)) (shuffle w64 (now (words .entry)) start (now (records .entry))) ⌝ }
+{
+    draws::shuffle::shuffle_records(words, start, records)
+}
+
+#[no_mangle]
+pub extern "C" fn hildrasp_sample(
+    words: &[u64],
+    start: usize,
+    records: &[u32],
+    k: usize,
+    slots: &mut [u32],
+) -> Answer
+    ensures answer { λ r. ⌜ r ≡ shown start (sample w64 (now (words .entry)) start (now (records .entry)) k (length (now (slots .entry)))) ⌝ }
+    ensures slots { λ r. ⌜ now (slots .exit) ≡ left (now (slots .entry)) (sample w64 (now (words .entry)) start (now (records .entry)) k (length (now (slots .entry)))) ⌝ }
+{
+    draws::sample::sample_records(words, start, records, k, slots)
 }

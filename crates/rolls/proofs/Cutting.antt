@@ -5,17 +5,16 @@
 --   Cutting, cut-first, cut-turn, cut-found    the loop that finds the end of a batch
 use mathlib.Core.Path.{_≡_, refl, sym, ap, ap₂, _∙_, subst}
 use mathlib.Core.Bool.{Bool, true, false, _&&_}
-use mathlib.Core.List.{List, [], _∷_, _++_, append-assoc, append-nil}
-use Prim.Native.Nat.{ℕ, zero, suc, _+_, _-_, _*_, _^_, _<_, _≤_}
-use native.Mathlib.Nat.{mul-pos, mul-one, not-suc-le-zero, suc-add, add-suc}
-use native.Mathlib.Numerals.{add-one, sub-one}
+use mathlib.Core.List.{List, [], _∷_, _++_, append-nil}
+use Prim.Native.Nat.{ℕ, suc, _+_, _-_, _*_, _^_, _<_, _≤_}
+use native.Mathlib.Nat.{mul-one, not-suc-le-zero}
+use native.Mathlib.Numerals.{add-one}
 use native.Mathlib.Omega.{arith}
 use lib.Dec.{leb, ltb}
-use lib.ListN.{length, take, drop, getD, length-append, length-take, length-drop, drop-of-length-le}
-use lib.Seq.{drop-cons, take-suc, length-take-le, getD-drop, append-snoc, take-all}
-use borrow.Author.Tests.{lt-ltb, le-ltb, le-leb, lt-leb, leb-true, ltb-true}
+use lib.ListN.{length, take, drop, getD, length-append, length-drop, drop-of-length-le}
+use lib.Seq.{drop-cons, take-suc, length-take-le, getD-drop, append-snoc}
+use borrow.Author.Tests.{lt-ltb, le-ltb, ltb-true}
 use Rattle.arithmetic.specs.Rolls.{product}
-use Rattle.arithmetic.specs.Products.{hasZero}
 use Rattle.arithmetic.proofs.Limits.{product-snoc}
 use Rattle.rolls.specs.Cut.{joins, cutFrom, cut, begins}
 use Rattle.rolls.specs.Inner.{cutAt}

@@ -17,7 +17,7 @@ use Rattle.rolls.specs.declared.search.Search.the-variants.{Hit, Missing
 use Rattle.rolls.proofs.Cutting.{part}
 use Rattle.rolls.proofs.Listing.{batchAt, batch-within, batch-rest, batch-part, cut-end, cut-find}
 use Rattle.rolls.proofs.Running.{rolledBy, hit-suffices, hit-rolled, hit-within, never-missing}
-use Rattle.rolls.proofs.Writing.{wrote, wrote-front, wrote-back, wrote-length, lent, drop-more}
+use Rattle.rolls.proofs.Writing.{wrote-front, wrote-back, wrote-length, lent, drop-more}
 
 -- ---- the loop
 

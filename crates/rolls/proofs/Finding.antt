@@ -19,7 +19,6 @@ use Rattle.arithmetic.specs.Rolls.{product, threshold, accepted}
 use Rattle.arithmetic.proofs.Rolls.{rest-low}
 use Rattle.rolls.specs.Run.{Taken, Found, found, missing, find}
 use Rattle.rolls.specs.Inner.{passes, searched}
-use Rattle.rolls.specs.declared.search.Search.{Search}
 use Rattle.rolls.specs.declared.search.Search.the-variants.{Hit, Missing}
 
 module _ (test : ℕ → Bool) (words : List ℕ) (at : ℕ) where

@@ -1,20 +1,19 @@
 -- The batch that begins at a place of a list of bounds, as the loops over a list meet it, at 64 bits. Assumes nothing.
-use mathlib.Core.Path.{_≡_, refl, sym, ap, _∙_}
-use mathlib.Core.Bool.{Bool, true, false}
-use mathlib.Core.List.{List, [], _∷_}
-use Prim.Native.Nat.{ℕ, _+_, _-_, _*_, _%_, _^_, _<_, _≤_}
+use mathlib.Core.Path.{_≡_, sym, ap, _∙_}
+use mathlib.Core.Bool.{false}
+use mathlib.Core.List.{List, _∷_}
+use Prim.Native.Nat.{ℕ, _+_, _-_, _^_, _<_, _≤_}
 use native.Mathlib.Nat.{mod-eq-of-lt}
 use native.Mathlib.Omega.{arith}
-use lib.ListN.{length, take, drop, getD, length-take, length-drop}
+use lib.ListN.{length, take, drop, getD, length-drop}
 use lib.Seq.{drop-drop, getD-take, getD-drop}
 use Rattle.arithmetic.specs.Rolls.{product, threshold, accepted}
 use Rattle.arithmetic.specs.Products.{hasZero}
 use Rattle.arithmetic.proofs.Limits.{zero-nowhere, product-some}
-use Rattle.rolls.specs.Run.{Taken, Found, found, missing, find}
+use Rattle.rolls.specs.Run.{find}
 use Rattle.rolls.specs.Cut.{cut, begins}
-use Rattle.rolls.specs.Inner.{passes, searched, cutAt}
+use Rattle.rolls.specs.Inner.{passes, cutAt}
 use Rattle.rolls.specs.declared.cut.Cut.{Cut}
-use Rattle.rolls.specs.declared.search.Search.{Search}
 use Rattle.rolls.proofs.Cutting.{part, Begun, begun}
 use Rattle.rolls.proofs.Finding.{find-batch}
 

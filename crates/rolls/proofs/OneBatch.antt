@@ -1,5 +1,5 @@
 -- One batch, refusal by refusal. Assumes nothing.
-use mathlib.Core.Path.{_≡_, refl, sym, ap, ap₂, _∙_}
+use mathlib.Core.Path.{_≡_, sym, ap, ap₂, _∙_}
 use mathlib.Core.Bool.{true, false}
 use mathlib.Core.List.{List, [], _∷_, _++_, append-nil}
 use Prim.Native.Nat.{ℕ, zero, suc, _+_, _-_, _%_, _^_, _<_, _≤_}
@@ -15,7 +15,7 @@ use borrow.Author.Tests.{ltb-false, le-ltb, lt-ltb}
 use Rattle.arithmetic.proofs.Limits.{or-left, or-right, held-below, held-whole, held-above}
 use Rattle.arithmetic.proofs.Rolls.{rolls-length}
 use Rattle.rolls.specs.Run.{Taken, found, missing, find, Run, ran, runFrom, run, rollsOf, next, rejected}
-use Rattle.rolls.specs.Outcome.{Outcome, refused, done, no, noWord, decide, outside, shownBatch}
+use Rattle.rolls.specs.Outcome.{refused, done, no, noWord, decide, outside, shownBatch}
 use Rattle.rolls.specs.Operations.{rolled, rollBatch}
 use Rattle.rolls.specs.Inner.{suffices, passes, searched}
 use Rattle.rolls.specs.declared.search.Search.the-variants.{Hit, Missing}

@@ -1,5 +1,5 @@
 -- A list of bounds, refusal by refusal. Assumes nothing.
-use mathlib.Core.Path.{_≡_, sym, ap, ap₂, _∙_}
+use mathlib.Core.Path.{_≡_, ap₂, _∙_}
 use mathlib.Core.Bool.{true, false}
 use mathlib.Core.List.{List, [], _∷_}
 use Prim.Native.Nat.{ℕ, _^_, _<_, _≤_}
@@ -9,7 +9,7 @@ use Rattle.arithmetic.specs.Products.{hasZero}
 use Rattle.arithmetic.specs.Width.{w64}
 use Rattle.rolls.specs.Run.{Run, run, trace, rollsOf}
 use Rattle.rolls.specs.Cut.{cut}
-use Rattle.rolls.specs.Outcome.{Outcome, refused, done, no, noWord, decide, outside}
+use Rattle.rolls.specs.Outcome.{refused, done, no, noWord, decide, outside}
 use Rattle.rolls.specs.Operations.{rolled, rollList}
 use Rattle.rolls.specs.Inner.{supplied}
 use Rattle.rolls.specs.declared.supply.Supply.the-variants.{Enough, Short}

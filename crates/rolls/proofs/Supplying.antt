@@ -1,18 +1,17 @@
 -- Whether the words suffice for a list of bounds: the loop of `supply_list`. Assumes nothing.
-use mathlib.Core.Path.{_≡_, refl, sym, ap, _∙_}
+use mathlib.Core.Path.{_≡_, sym, ap, _∙_}
 use mathlib.Core.Bool.{false}
-use mathlib.Core.List.{List, [], _∷_}
-use Prim.Native.Nat.{ℕ, _+_, _-_, _^_, _<_, _≤_}
+use mathlib.Core.List.{List, _∷_}
+use Prim.Native.Nat.{ℕ, _+_, _^_, _<_, _≤_}
 use native.Mathlib.Omega.{arith}
 use lib.ListN.{length, drop, drop-of-length-le}
 use Rattle.arithmetic.specs.Rolls.{threshold, accepted}
 use Rattle.arithmetic.specs.Products.{hasZero}
-use Rattle.rolls.specs.Run.{Taken, Found, found, missing, find, Run, ran, runFrom, run, next, rejected}
+use Rattle.rolls.specs.Run.{find, runFrom, run, next, rejected}
 use Rattle.rolls.specs.Cut.{cut}
 use Rattle.rolls.specs.Inner.{passes, searched, supplied, cutAt}
 use Rattle.rolls.specs.declared.cut.Cut.{Cut}
 use Rattle.rolls.specs.declared.search.Search.the-variants.{Hit, Missing}
-use Rattle.rolls.specs.declared.supply.Supply.{Supply}
 use Rattle.rolls.specs.declared.supply.Supply.the-variants.{Enough, Short}
 use Rattle.rolls.proofs.Listing.{batchAt, batch-rest, cut-end, cut-place, cut-find}
 use Rattle.rolls.proofs.Running.{finish, finish-none, finish-hit, finish-missing, hit-passed, hit-within}

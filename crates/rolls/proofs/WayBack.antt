@@ -1,8 +1,8 @@
 -- The words behind rolls, refusal by refusal. Assumes nothing.
-use mathlib.Core.Path.{_≡_, refl, sym, ap, _∙_}
+use mathlib.Core.Path.{_≡_, ap, _∙_}
 use mathlib.Core.Bool.{true, false, not}
 use mathlib.Core.List.{List, [], _∷_}
-use Prim.Native.Nat.{ℕ, _+_, _-_, _*_, _^_, _<_, _≤_}
+use Prim.Native.Nat.{ℕ, _^_, _<_}
 use native.Mathlib.Omega.{arith}
 use lib.Dec.{ltb}
 use lib.ListN.{length}
@@ -12,10 +12,9 @@ use Rattle.arithmetic.specs.declared.bounds.Product.the-variants.{Below, Whole}
 use Rattle.arithmetic.specs.Width.{w64}
 use Rattle.arithmetic.proofs.Limits.{held-below, held-whole}
 use Rattle.arithmetic.proofs.Rolls.{value-below}
-use Rattle.rolls.specs.Outcome.{Outcome, refused, done, no, decide, outside, shownBehind}
+use Rattle.rolls.specs.Outcome.{refused, done, no, outside, shownBehind}
 use Rattle.rolls.specs.Operations.{wordsBehind}
 use Rattle.rolls.specs.Inner.{runBehind}
-use Rattle.rolls.specs.declared.answer.Behind.{Behind}
 use Rattle.rolls.proofs.Deciding.{decide-here, decide-past, decide-none}
 use Rattle.rolls.proofs.Radix.{range-true}
 

@@ -4,6 +4,7 @@
 //! The oracle calls nothing of the proved library; the two have only the shape of their answers in common.
 
 pub mod plan;
+pub mod reading;
 pub mod run;
 pub mod word;
 
@@ -15,6 +16,9 @@ use word::{power, product, run_of_words, L};
 
 /// The most bounds in a list.
 pub const MAX_LIST: usize = 4096;
+
+/// The most records.
+pub const MAX_RECORDS: usize = 16_384;
 
 /// What an operation comes to: values for the front of the lent list, or a refusal.
 type Outcome<T> = Result<Done<T>, Refusal>;
@@ -106,4 +110,52 @@ pub fn words_behind(bounds: &[u64], rolls: &[u64]) -> Behind {
         }
         Err(refusal) => Behind { no: refusal.number(), next: 0, rejected: 0, first: 0, last: 0 },
     }
+}
+
+/// Shuffles records in the lent list itself.
+pub fn shuffle(words: &[u64], start: usize, lent: &mut [u32]) -> Answer {
+    let outcome = shuffled(words, start, lent);
+    leave(&outcome, lent);
+    shown(start, &outcome)
+}
+
+fn shuffled(words: &[u64], start: usize, records: &[u32]) -> Outcome<u32> {
+    refuse(&[(Refusal::Count, records.len() > MAX_RECORDS), (Refusal::Start, start > words.len())])?;
+    let trace = run(&plan::shuffle(records.len()), words, start)?;
+    Ok(Done { values: reading::shuffled(records, &trace), next: trace.next, rejected: trace.rejected })
+}
+
+/// Samples k records into the lent list.
+pub fn sample(words: &[u64], start: usize, records: &[u32], k: usize, lent: &mut [u32]) -> Answer {
+    let outcome = sampled(words, start, records, k, lent.len());
+    leave(&outcome, lent);
+    shown(start, &outcome)
+}
+
+fn sampled(words: &[u64], start: usize, records: &[u32], k: usize, room: usize) -> Outcome<u32> {
+    refuse(&[
+        (Refusal::Count, records.len() > MAX_RECORDS),
+        (Refusal::Sample, k == 0 || k > records.len()),
+        (Refusal::Room, room < k),
+        (Refusal::Start, start > words.len()),
+    ])?;
+    let trace = run(&plan::sample(records.len(), k), words, start)?;
+    let values = reading::sampled(records, k, &trace.rolls());
+    Ok(Done { values, next: trace.next, rejected: trace.rejected })
+}
+
+/// Names the rolls behind an order in the lent list.
+pub fn rolls_behind(order: &[u32], lent: &mut [u64]) -> Answer {
+    let outcome = behind_order(order, lent.len());
+    leave(&outcome, lent);
+    shown(0, &outcome)
+}
+
+fn behind_order(order: &[u32], room: usize) -> Outcome<u64> {
+    refuse(&[
+        (Refusal::Count, order.len() > MAX_RECORDS),
+        (Refusal::Room, room < order.len().saturating_sub(1)),
+        (Refusal::Order, !reading::is_order(order)),
+    ])?;
+    Ok(Done { values: reading::rolls_behind(order), next: 0, rejected: 0 })
 }

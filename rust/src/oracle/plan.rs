@@ -27,3 +27,32 @@ pub fn cut(bounds: &[u64]) -> Plan {
 fn joins(batch: &[u64], bound: u64) -> bool {
     batch.len() < MAX_BATCH && product(batch) * u128::from(bound) <= CUT_LIMIT
 }
+
+/// The shuffle's batch size with m records still to place, 0 where it is finished.
+fn shuffle_size(m: usize) -> usize {
+    match m {
+        0 | 1 => 0,
+        2..=6 => m - 1,
+        7..=512 => 6,
+        513..=2048 => 5,
+        _ => 4,
+    }
+}
+
+/// The batches of a shuffle of n records: with m still to place and batch size s, the bounds m, m - 1, .., m + 1 - s.
+pub fn shuffle(n: usize) -> Plan {
+    let mut plan = Plan::new();
+    let mut m = n;
+    while shuffle_size(m) > 0 {
+        let s = shuffle_size(m);
+        plan.push((m + 1 - s..=m).rev().map(|bound| bound as u64).collect());
+        m -= s;
+    }
+    plan
+}
+
+/// The batches of a sample of k from n records: the bounds k + 1, .., n, cut as a list of bounds.
+pub fn sample(n: usize, k: usize) -> Plan {
+    let bounds: Vec<u64> = (k + 1..=n).map(|bound| bound as u64).collect();
+    cut(&bounds)
+}

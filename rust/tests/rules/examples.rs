@@ -1,6 +1,9 @@
 //! The checked examples of document 01, with the values that stand there.
 
-use crate::support::{batch_refused, behind, done, refused, roll_batch, roll_list, rolled, words_behind, Lent};
+use crate::support::{
+    batch_refused, behind, done, refused, roll_batch, roll_list, rolled, rolls_behind, sample, shuffle, words_behind,
+    Lent,
+};
 use hildrasp::oracle::{plan::cut, word};
 
 #[test]
@@ -61,4 +64,43 @@ fn seventeen_bounds_of_1_are_cut_as_16_and_1() {
     assert_eq!(cut(&[1; 17]), [&[1; 16][..], &[1; 1][..]]);
     assert_eq!(roll_list(&[7], 0, &[1; 17], 17), (refused(10, 0, 1), Lent::with_room(17)));
     assert_eq!(roll_list(&[7, 8], 0, &[1; 17], 17), (done(2, 0), Lent::holding(17, &[0; 17])));
+}
+
+#[test]
+fn a_shuffle_of_0_1_2_with_words_0_1_gives_1_2_0_with_one_rejected() {
+    assert_eq!(shuffle(&[0, 1], 0, &[0, 1, 2]), (done(2, 1), Lent::holding(3, &[1, 2, 0])));
+}
+
+#[test]
+fn two_records_are_exchanged_by_word_0_and_not_by_word_2_to_the_63() {
+    assert_eq!(shuffle(&[0], 0, &[0, 1]), (done(1, 0), Lent::holding(2, &[1, 0])));
+    assert_eq!(shuffle(&[1 << 63], 0, &[0, 1]), (done(1, 0), Lent::holding(2, &[0, 1])));
+}
+
+#[test]
+fn eight_records_with_words_1_0_give_1_2_3_4_5_6_7_0() {
+    let shuffled = [1, 2, 3, 4, 5, 6, 7, 0];
+    assert_eq!(shuffle(&[1, 0], 0, &[0, 1, 2, 3, 4, 5, 6, 7]), (done(2, 0), Lent::holding(8, &shuffled)));
+}
+
+#[test]
+fn eight_records_with_word_1_alone_are_refused_10_at_batch_1_and_stay_as_they_were() {
+    let records = [0, 1, 2, 3, 4, 5, 6, 7];
+    assert_eq!(shuffle(&[1], 0, &records), (refused(10, 0, 1), Lent::holding(8, &records)));
+}
+
+#[test]
+fn the_rolls_behind_1_2_0_are_0_0() {
+    assert_eq!(rolls_behind(&[1, 2, 0], 2), (done(0, 0), Lent::holding(2, &[0, 0])));
+}
+
+#[test]
+fn a_sample_of_3_from_3_uses_no_word() {
+    assert_eq!(sample(&[], 0, &[7, 8, 9], 3, 3), (done(0, 0), Lent::holding(3, &[7, 8, 9])));
+    assert_eq!(sample(&[5, 6], 1, &[7, 8, 9], 3, 3), (done(1, 0), Lent::holding(3, &[7, 8, 9])));
+}
+
+#[test]
+fn a_sample_of_0_from_0_is_refused_3() {
+    assert_eq!(sample(&[], 0, &[], 0, 0), (refused(3, 0, 0), Lent::with_room(0)));
 }

@@ -43,5 +43,24 @@ int main(void)
     HOLDS(run.no == 0 && run.next == 0 && run.rejected == 0);
     HOLDS(run.first == 1 && run.last == UINT64_C(1537228672809129301));
 
+    uint32_t records[8] = {0, 1, 2, 3, 4, 5, 6, 7};
+    hildrasp_answer shuffled = hildrasp_shuffle(words, 1, 0, records, 3);
+    HOLDS(shuffled.no == HILDRASP_WORDS && shuffled.next == 0 && shuffled.rejected == 0 && shuffled.batch == 0);
+    HOLDS(records[0] == 0 && records[1] == 1 && records[2] == 2);
+    shuffled = hildrasp_shuffle(words, 2, 0, records, 3);
+    HOLDS(shuffled.no == 0 && shuffled.next == 2 && shuffled.rejected == 1 && shuffled.batch == 0);
+    HOLDS(records[0] == 1 && records[1] == 2 && records[2] == 0 && records[3] == 3);
+
+    uint64_t behind[3] = {9, 9, 9};
+    hildrasp_answer order = hildrasp_rolls_behind(records, 3, behind, 3);
+    HOLDS(order.no == 0 && order.next == 0 && order.rejected == 0 && order.batch == 0);
+    HOLDS(behind[0] == 0 && behind[1] == 0 && behind[2] == 9);
+
+    const uint32_t three[3] = {101, 205, 309};
+    uint32_t slots[2] = {9, 9};
+    hildrasp_answer sampled = hildrasp_sample(words, 2, 0, three, 3, 1, slots, 2);
+    HOLDS(sampled.no == 0 && sampled.next == 2 && sampled.rejected == 1 && sampled.batch == 0);
+    HOLDS(slots[0] == 309 && slots[1] == 9);
+
     return 0;
 }

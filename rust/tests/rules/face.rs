@@ -1,7 +1,7 @@
 //! The faces of the library: the safe Rust face gives each refusal its name, and the C header serves a C program.
 
 use crate::support::built_program;
-use hildrasp::{roll_batch, roll_list, words_behind, Refusal, Used};
+use hildrasp::{roll_batch, roll_list, rolls_behind, sample, shuffle, words_behind, Refusal, Used};
 use std::env;
 use std::path::Path;
 use std::process::Command;
@@ -51,6 +51,29 @@ fn words_behind_rolls_can_meet_2_4_5_7() {
     assert_eq!(words_behind(&[0], &[0]), Err(Refusal::Zero));
     assert_eq!(words_behind(&[1 << 63, 3], &[0, 0]), Err(Refusal::Product));
     assert_eq!(words_behind(&[6], &[6]), Err(Refusal::Misfit));
+}
+
+#[test]
+fn a_shuffle_can_meet_2_9_10() {
+    assert_eq!(shuffle(&[1], 0, &mut [0; 16_385]), Err(Refusal::Count));
+    assert_eq!(shuffle(&[1], 2, &mut [0; 8]), Err(Refusal::Start));
+    assert_eq!(shuffle(&[1], 0, &mut [0; 8]), Err(Refusal::Words { batch: 1 }));
+}
+
+#[test]
+fn a_sample_can_meet_2_3_6_9_10() {
+    assert_eq!(sample(&[1], 0, &[0; 16_385], 1, &mut [0]), Err(Refusal::Count));
+    assert_eq!(sample(&[1], 0, &[5, 6], 3, &mut [0; 3]), Err(Refusal::Sample));
+    assert_eq!(sample(&[1], 0, &[5, 6], 2, &mut [0]), Err(Refusal::Room));
+    assert_eq!(sample(&[1], 2, &[5, 6], 1, &mut [0]), Err(Refusal::Start));
+    assert_eq!(sample(&[1], 0, &[5; 30], 1, &mut [0]), Err(Refusal::Words { batch: 1 }));
+}
+
+#[test]
+fn rolls_behind_an_order_can_meet_2_6_8() {
+    assert_eq!(rolls_behind(&[0; 16_385], &mut [0; 16_384]), Err(Refusal::Count));
+    assert_eq!(rolls_behind(&[2, 1, 0], &mut [0]), Err(Refusal::Room));
+    assert_eq!(rolls_behind(&[2, 1, 1], &mut [0; 2]), Err(Refusal::Order));
 }
 
 #[test]

@@ -6,6 +6,7 @@ use hildrasp::raw::{self, Answer, Batch, Behind};
 use std::env;
 use std::path::Path;
 use std::process::Command;
+use std::fmt::{self, Debug};
 
 /// How many random cases to run, times the number in the environment variable `HILDRASP_CASES`.
 pub fn cases(default: usize) -> usize {
@@ -31,6 +32,20 @@ pub fn built_program(path: &Path) -> Command {
 pub fn choices(numbers: &[u64]) -> Vec<Vec<u64>> {
     let chosen = |set: usize| numbers.iter().enumerate().filter(move |(i, _)| set >> i & 1 == 1).map(|(_, &no)| no);
     (0..1 << numbers.len()).map(|set| chosen(set).collect()).collect()
+}
+
+/// The records 0, 1, .., n - 1, each at its own place.
+pub fn in_place(n: usize) -> Vec<u32> {
+    (0..n as u32).collect()
+}
+
+/// A list in a message: long ones by their first places.
+pub fn brief<T: Debug>(list: &[T]) -> String {
+    const SHOWN: usize = 60;
+    match list.len() {
+        0..=SHOWN => format!("{list:?}"),
+        longer => format!("{:?} and {} more", &list[..SHOWN], longer - SHOWN),
+    }
 }
 
 // ---- Random inputs ----
@@ -74,6 +89,20 @@ impl Generator {
     /// A bound of 1 to 64 bits.
     pub fn bound(&mut self) -> u64 {
         (self.word() >> self.below(64)).max(1)
+    }
+
+    /// Any records, some of them equal.
+    pub fn records(&mut self, count: usize) -> Vec<u32> {
+        (0..count).map(|_| (self.word() >> self.below(64)) as u32).collect()
+    }
+
+    /// An order of 0, 1, .., n - 1.
+    pub fn order(&mut self, n: usize) -> Vec<u32> {
+        let mut order = in_place(n);
+        for m in (2..=n).rev() {
+            order.swap(m - 1, self.below(m));
+        }
+        order
     }
 
     /// A start place for a list of `length` words: most within it, some at its end, some above.
@@ -170,9 +199,15 @@ impl Generator {
 // ---- Lent lists ----
 
 /// A list to lend, all its places different, between two guards that belong to nobody.
-#[derive(Debug, Clone, PartialEq, Eq)]
+#[derive(Clone, PartialEq, Eq)]
 pub struct Lent<T> {
     all: Vec<T>,
+}
+
+impl<T: Debug> Debug for Lent<T> {
+    fn fmt(&self, f: &mut fmt::Formatter<'_>) -> fmt::Result {
+        write!(f, "{}", brief(&self.all))
+    }
 }
 
 const GUARD: usize = 20;
@@ -206,18 +241,62 @@ impl<T: From<u32> + Copy> Lent<T> {
 pub fn roll_batch(words: &[u64], start: usize, bounds: &[u64]) -> Batch {
     let answer = raw::roll_batch(words, start, bounds);
     let wanted = oracle::roll_batch(words, start, bounds);
-    assert_eq!(answer, wanted, "words {words:?}, start {start}, bounds {bounds:?}");
+    assert_eq!(answer, wanted, "words {}, start {start}, bounds {bounds:?}", brief(words));
     answer
 }
 
-/// Rolls a list of bounds by the library, and by the oracle with the same answer and the same lent list.
+/// Calls the library with one list lent, and the oracle with another like it: answer and list are the same.
+fn lend_to_both<T: Copy + Debug + PartialEq>(
+    lent: Lent<T>,
+    library: impl Fn(&mut [T]) -> Answer,
+    oracle: impl Fn(&mut [T]) -> Answer,
+    case: impl Fn() -> String,
+) -> (Answer, Lent<T>) {
+    let (mut by_library, mut by_oracle) = (lent.clone(), lent);
+    let answer = library(by_library.lend());
+    assert_eq!(answer, oracle(by_oracle.lend()), "{}", case());
+    assert_eq!(by_library, by_oracle, "{}", case());
+    (answer, by_library)
+}
+
+/// Rolls a list of bounds by the library and by the oracle.
 pub fn roll_list(words: &[u64], start: usize, bounds: &[u64], room: usize) -> (Answer, Lent<u64>) {
-    let (mut lent, mut wanted_lent) = (Lent::with_room(room), Lent::with_room(room));
-    let answer = raw::roll_list(words, start, bounds, lent.lend());
-    let wanted = oracle::roll_list(words, start, bounds, wanted_lent.lend());
-    assert_eq!(answer, wanted, "words {words:?}, start {start}, bounds {bounds:?}, room {room}");
-    assert_eq!(lent, wanted_lent, "words {words:?}, start {start}, bounds {bounds:?}, room {room}");
-    (answer, lent)
+    lend_to_both(
+        Lent::with_room(room),
+        |lent| raw::roll_list(words, start, bounds, lent),
+        |lent| oracle::roll_list(words, start, bounds, lent),
+        || format!("words {}, start {start}, bounds {}, room {room}", brief(words), brief(bounds)),
+    )
+}
+
+/// Shuffles records by the library and by the oracle.
+pub fn shuffle(words: &[u64], start: usize, records: &[u32]) -> (Answer, Lent<u32>) {
+    lend_to_both(
+        Lent::holding(records.len(), records),
+        |lent| raw::shuffle(words, start, lent),
+        |lent| oracle::shuffle(words, start, lent),
+        || format!("words {}, start {start}, {} records {}", brief(words), records.len(), brief(records)),
+    )
+}
+
+/// Samples k records by the library and by the oracle.
+pub fn sample(words: &[u64], start: usize, records: &[u32], k: usize, room: usize) -> (Answer, Lent<u32>) {
+    lend_to_both(
+        Lent::with_room(room),
+        |lent| raw::sample(words, start, records, k, lent),
+        |lent| oracle::sample(words, start, records, k, lent),
+        || format!("words {}, start {start}, {k} of {} records, room {room}", brief(words), records.len()),
+    )
+}
+
+/// Names the rolls behind an order by the library and by the oracle.
+pub fn rolls_behind(order: &[u32], room: usize) -> (Answer, Lent<u64>) {
+    lend_to_both(
+        Lent::with_room(room),
+        |lent| raw::rolls_behind(order, lent),
+        |lent| oracle::rolls_behind(order, lent),
+        || format!("order {}, room {room}", brief(order)),
+    )
 }
 
 /// Names the words behind rolls by the library, and by the oracle with the same answer.

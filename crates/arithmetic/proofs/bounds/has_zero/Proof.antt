@@ -1,13 +1,12 @@
-use mathlib.Core.Path.{_≡_, _∙_, sym, ap}
-use Prim.Native.Nat.{_+_, _-_, _<_, _≤_}
+-- `has_zero` meets its contract. The loop: what is left has a 0 exactly where the whole has; the measure is what is left. Assumes nothing.
+use mathlib.Core.Path.{_≡_, _∙_, sym}
+use Prim.Native.Nat.{_-_, _≤_}
 use borrow.Author.Needs.{needs}
-use lib.ListN.{length, drop, drop-of-length-le}
+use lib.ListN.{length, drop}
 use Rattle.arithmetic.specs.Products.{hasZero}
 use Rattle.arithmetic.proofs.Limits.{zero-here, zero-later, zero-none}
 use Rattle.arithmetic.proofs.bounds.has_zero.Statement.{statement}
 use Rattle.arithmetic.proofs.bounds.has_zero.Tie as tie
-use Rattle.arithmetic.proofs.bounds.has_zero.Reads as reads
-use Rattle.arithmetic.proofs.bounds.has_zero.Lts as lts
 
 abbrev Inv-loop : tie.InvT-loop
 Inv-loop bounds i₀ i = (i ≤ length bounds) × (hasZero (drop i bounds) ≡ hasZero bounds)
@@ -15,35 +14,27 @@ Inv-loop bounds i₀ i = (i ≤ length bounds) × (hasZero (drop i bounds) ≡ h
 abbrev μ-loop : tie.MeasureT-loop
 μ-loop bounds i₀ i = length bounds - i
 
--- src/bounds.rt:82:5
 loop-holds : tie.Need-loop-holds Inv-loop μ-loop
 loop-holds c = search needs
 
--- src/bounds.rt:83:12
 mul-if1 : tie.Need-mul-if1 Inv-loop μ-loop
 mul-if1 c = search needs
 
--- src/bounds.rt:83:12
 shared-slice-read-if1 : tie.Need-shared-slice-read-if1 Inv-loop μ-loop
 shared-slice-read-if1 c = search needs
 
--- src/bounds.rt:84:13
 returns : tie.Need-returns Inv-loop μ-loop
 returns c = let b = c .before .before .before in sym (zero-here (b .before .args .bounds .now) (b .loop .i) (search needs) (c .if1 .taken)) ∙ b .loop .inv .1
 
--- src/bounds.rt:86:9
 add-i : tie.Need-add-i Inv-loop μ-loop
 add-i c = search needs
 
--- src/bounds.rt:82:5
 loop-less : tie.Need-loop-less Inv-loop μ-loop
 loop-less c = search needs
 
--- src/bounds.rt:82:5
 loop-again : tie.Need-loop-again Inv-loop μ-loop
 loop-again c = let b = c .before .before .before in (search needs, zero-later (b .before .args .bounds .now) (b .loop .i) (search needs) (c .if1 .left) ∙ b .loop .inv .1)
 
--- src/bounds.rt:78:1
 returns-2 : tie.Need-returns-2 Inv-loop μ-loop
 returns-2 c = sym (zero-none _ (c .before .loop .i) (search needs)) ∙ c .before .loop .inv .1
 

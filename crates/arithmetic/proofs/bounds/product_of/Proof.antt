@@ -1,6 +1,7 @@
+-- `product_of` meets its contract. The loop holds the product of the bounds passed; the measure is what is left of the list. Assumes nothing.
 use mathlib.Core.Path.{_≡_, _∙_, refl, sym, ap}
 use mathlib.Core.List.{List}
-use Prim.Native.Nat.{ℕ, _+_, _-_, _<_, _≤_}
+use Prim.Native.Nat.{ℕ, _-_, _≤_}
 use borrow.Author.Needs.{needs}
 use lib.ListN.{length, take, getD}
 use lib.Seq.{take-all}
@@ -10,9 +11,6 @@ use Rattle.arithmetic.specs.declared.bounds.Product.{Product}
 use Rattle.arithmetic.proofs.Limits.{zero-nowhere, grown-against, product-more}
 use Rattle.arithmetic.proofs.bounds.product_of.Statement.{statement}
 use Rattle.arithmetic.proofs.bounds.product_of.Tie as tie
-use Rattle.arithmetic.proofs.bounds.product_of.Reads as reads
-use Rattle.arithmetic.proofs.bounds.product_of.Lts as lts
-use Rattle.arithmetic.proofs.bounds.grow.Reads as grow-reads
 
 abbrev Inv-loop : tie.InvT-loop
 Inv-loop bounds held₀ i₀ held i = (i ≤ length bounds) × (held ≡ against (product (take i bounds)))
@@ -20,32 +18,25 @@ Inv-loop bounds held₀ i₀ held i = (i ≤ length bounds) × (held ≡ against
 abbrev μ-loop : tie.MeasureT-loop
 μ-loop bounds held₀ i₀ held i = length bounds - i
 
--- src/bounds.rt:62:5
 loop-holds : tie.Need-loop-holds Inv-loop μ-loop
 unfolding product against
 loop-holds c = (search needs, refl)
 
--- src/bounds.rt:63:27
 mul-grow : tie.Need-mul-grow Inv-loop μ-loop
 mul-grow c = search needs
 
--- src/bounds.rt:63:27
 shared-slice-read-grow : tie.Need-shared-slice-read-grow Inv-loop μ-loop
 shared-slice-read-grow c = search needs
 
--- src/bounds.rt:63:9
 grow-requires : tie.Need-grow-requires Inv-loop μ-loop
 grow-requires c κs = let b = c .before .before in zero-nowhere _ _ (b .before .before .pre) (search needs)
 
--- src/bounds.rt:64:9
 add-i : tie.Need-add-i Inv-loop μ-loop
 add-i c = search needs
 
--- src/bounds.rt:62:5
 loop-less : tie.Need-loop-less Inv-loop μ-loop
 loop-less c = search needs
 
--- src/bounds.rt:62:5
 loop-again : tie.Need-loop-again Inv-loop μ-loop
 loop-again c = let b = c .before .before .before in
     let bs = b .before .before .args .bounds .now in (
@@ -55,7 +46,6 @@ loop-again c = let b = c .before .before .before in
           ∙ ap against (sym (product-more bs (b .loop .i) (search needs))),
     )
 
--- src/bounds.rt:56:1
 returns : tie.Need-returns Inv-loop μ-loop
 returns c = let bs = c .before .before .before .args .bounds .now in
     c .before .loop .inv .1 ∙ ap (λ (l : List ℕ). against (product l)) (take-all (c .before .loop .i) bs (search needs))

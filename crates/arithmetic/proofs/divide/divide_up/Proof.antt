@@ -1,31 +1,25 @@
+-- `divide_up` meets its contract: the quotient where the remainder is 0, and one more where it is not. Assumes nothing.
 use mathlib.Core.Path.{_∙_, sym, ap}
 use Prim.Native.Nat.{ℕ, _+_, _*_, _^_}
 use Rattle.arithmetic.proofs.LongDivision.{up-exact, up-more}
 use borrow.Author.Needs.{needs}
 use Rattle.arithmetic.proofs.divide.divide_up.Statement.{statement}
 use Rattle.arithmetic.proofs.divide.divide_up.Tie as tie
-use Rattle.arithmetic.proofs.divide.divide_up.Reads as reads
-use Rattle.arithmetic.proofs.divide.divide_up.Lts as lts
-use Rattle.arithmetic.proofs.divide.divide.Reads as divide-reads
 
--- src/divide.rt:43:9
 divide-requires : tie.Need-divide-requires
 divide-requires c κs = search needs
 
--- src/divide.rt:45:9
 returns : tie.Need-returns
 returns c = let d = c .before .before in
     let a = d .before .args in
     d .divide .ensures .0 ∙ up-exact (a .high * 2 ^ 64 + a .low) (a .b) (search needs) (sym (d .divide .ensures .1) ∙ c .if1 .taken)
 
--- src/divide.rt:39:1
 returns-2 : tie.Need-returns-2
 returns-2 c = let d = c .before .before .before in
     let a = d .before .args in
     ap (λ (n : ℕ). n + 1) (d .divide .ensures .0)
     ∙ up-more (a .high * 2 ^ 64 + a .low) (a .b) (search needs) (λ e. c .before .if1 .left (d .divide .ensures .1 ∙ e))
 
--- src/divide.rt:47:5
 add-result : tie.Need-add-result
 add-result c = let s = c .before .before .before .before in record { fits = rw (returns-2 c) (s .pre .1) }
 

@@ -1,5 +1,6 @@
-use mathlib.Core.Path.{_≡_, _∙_, sym, ap}
-use mathlib.Core.List.{List, _++_}
+-- `draw_sample` meets its contract: whether the words suffice, and then the slots. Assumes nothing.
+use mathlib.Core.Path.{_∙_, sym, ap}
+use mathlib.Core.List.{_++_}
 use Prim.Native.Nat.{ℕ, _^_}
 use lib.ListN.{length, take, drop}
 use borrow.Author.Tests.{le-ltb}
@@ -12,22 +13,14 @@ use Rattle.draws.proofs.OneSample.{sample-short, sample-done, sample-le
 use borrow.Author.Needs.{needs}
 use Rattle.draws.proofs.sample.draw_sample.Statement.{statement}
 use Rattle.draws.proofs.sample.draw_sample.Tie as tie
-use Rattle.draws.proofs.sample.draw_sample.Reads as reads
-use Rattle.draws.proofs.sample.draw_sample.Lts as lts
-use Rattle.draws.proofs.sample.fill_slots.Reads as fill-slots-reads
-use Rattle.rolls.proofs.answer.refused_answer.Reads as refused-answer-reads
-use Rattle.rolls.proofs.supply.supply_list.Reads as supply-list-reads
 
--- src/sample.rt:83:11
 supply-list-requires : tie.Need-supply-list-requires
 supply-list-requires c κs = let s = c .before .before .before .before in
     (s .pre .0 .0, bounds-no-zero (s .args .bounds .now) (length (s .args .records .now)) (s .args .k) (s .pre .1))
 
--- src/sample.rt:84:26
 enum-known-next : tie.Need-enum-known-next
 enum-known-next c = search needs
 
--- src/sample.rt:85:13
 fill-slots-requires : tie.Need-fill-slots-requires
 fill-slots-requires c κs = let n = c .before .before in
     let s = n .before .before .before .before .before .before .before in
@@ -40,19 +33,15 @@ fill-slots-requires c κs = let n = c .before .before in
       ),
     )
 
--- src/sample.rt:93:25
 enum-known-batch : tie.Need-enum-known-batch
 enum-known-batch c = search needs
 
--- src/sample.rt:93:36
 refused-answer-requires : tie.Need-refused-answer-requires
 refused-answer-requires c κs = search needs
 
--- src/sample.rt:77:1
 same-length : tie.Need-same-length
 same-length c = search needs
 
--- src/sample.rt:77:1
 returns : tie.Need-returns
 returns c = let n = c .before .before .before .before .before in
     let s = n .before .before .before .before .before .before .before in
@@ -65,7 +54,6 @@ returns c = let n = c .before .before .before .before .before in
     (c .before .before .fill-slots .ensures
     ∙ ap (λ (m : ℕ). reservoir (take (a .k) (a .records .now)) (drop (a .k) (a .records .now)) js ++ drop m (a .slots .now)) (sym (sample-length (a .records .now) js (a .k) (s .pre .0 .3))))
 
--- src/sample.rt:77:1
 returns-2 : tie.Need-returns-2
 returns-2 c = let b = c .before .before in
     let s = b .before .before .before .before .before .before .before in

@@ -1,3 +1,4 @@
+-- `fill_slots` meets its contract: the rolls stand in front of a local array, and the reservoir is run with them. Assumes nothing.
 use mathlib.Core.Path.{_≡_, _∙_, sym, ap}
 use Prim.Native.Nat.{ℕ, _+_, _^_, _≤_}
 use native.Mathlib.Omega.{arith}
@@ -11,11 +12,6 @@ use Rattle.draws.proofs.Sampling.{prefix-count, array-kept, prefix-back
 use borrow.Author.Needs.{needs}
 use Rattle.draws.proofs.sample.fill_slots.Statement.{statement}
 use Rattle.draws.proofs.sample.fill_slots.Tie as tie
-use Rattle.draws.proofs.sample.fill_slots.Reads as reads
-use Rattle.draws.proofs.sample.fill_slots.Lts as lts
-use Rattle.draws.proofs.sample.take_first.Reads as take-first-reads
-use Rattle.draws.proofs.sample.take_later.Reads as take-later-reads
-use Rattle.rolls.proofs.list.write_list.Reads as write-list-reads
 
 few : (s : tie.Start) → length (s .args .bounds .now) ≤ 16384
 few s = omega (arith, bound-count (s .args .bounds .now) (length (s .args .records .now)) (s .args .k) (s .pre .0 .2) (s .pre .1 .0), s .pre .0 .1)
@@ -30,15 +26,12 @@ written w =
     let s = w .before .before .before .before .before .before in
     prefix-back (replicate 16384 0) (w .write-list .last .1 .1 .1 .0) (length (s .args .bounds .now)) (fits s) (w .write-list .kept .1 .1 .1 .0)
 
--- src/sample.rt:71:38
 array-borrow-prefix-rolls : tie.Need-array-borrow-prefix-rolls
 array-borrow-prefix-rolls c = let s = c .before .before .before .before in few s
 
--- src/sample.rt:71:38
 slice-aggregate-write-list : tie.Need-slice-aggregate-write-list
 slice-aggregate-write-list c = let s = c .before .before .before .before .before in prefix-count (replicate 16384 0) (length (s .args .bounds .now)) (fits s)
 
--- src/sample.rt:71:5
 write-list-requires : tie.Need-write-list-requires
 write-list-requires c κs = let s = c .before .before .before .before .before in (
   s .pre .0 .0,
@@ -47,23 +40,19 @@ write-list-requires c κs = let s = c .before .before .before .before .before in
   s .pre .1 .1,
 )
 
--- src/sample.rt:72:5
 take-first-requires : tie.Need-take-first-requires
 take-first-requires c κs = search needs
 
--- src/sample.rt:73:28
 array-share-prefix-rolls : tie.Need-array-share-prefix-rolls
 array-share-prefix-rolls c = let w = c .before .before .before .before .before in
     let s = w .before .before .before .before .before .before in
     rw (array-kept (replicate 16384 0) (w .write-list .last .1 .1 .1 .0) (length (s .args .bounds .now)) (fits s) (w .write-list .kept .1 .1 .1 .0)) (fits s)
 
--- src/sample.rt:73:28
 slice-aggregate-take-later : tie.Need-slice-aggregate-take-later
 slice-aggregate-take-later c = let w = c .before .before .before .before .before .before in
     let s = w .before .before .before .before .before .before in
     rw (written w) (prefix-count (replicate 16384 0) (length (s .args .bounds .now)) (fits s) ∙ sym (w .write-list .kept .1 .1 .1 .0))
 
--- src/sample.rt:73:5
 take-later-requires : tie.Need-take-later-requires
 take-later-requires c κs = let f = c .before .before .before .before in
     let w = f .before .before .before in
@@ -73,11 +62,9 @@ take-later-requires c κs = let f = c .before .before .before .before in
       omega (arith, f .take-first .kept .1 .1 .0, s .pre .0 .3),
     )
 
--- src/sample.rt:64:1
 same-length : tie.Need-same-length
 same-length c = search needs
 
--- src/sample.rt:64:1
 returns : tie.Need-returns
 returns c = let f = c .before .before .before .before .before .before .before in
     let w = f .before .before .before in

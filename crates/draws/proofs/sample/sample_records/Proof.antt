@@ -1,5 +1,6 @@
+-- `sample_records` meets its contract, refusal by refusal (OneSample); the bounds stand in front of a local array. Assumes nothing.
 use mathlib.Core.Path.{_≡_, _∙_, sym, ap}
-use mathlib.Core.List.{List, _++_}
+use mathlib.Core.List.{_++_}
 use Prim.Native.Nat.{ℕ, _+_, _-_, _≤_}
 use native.Mathlib.Omega.{arith}
 use lib.ListN.{length, take, drop, replicate, length-replicate}
@@ -11,11 +12,6 @@ use Rattle.draws.proofs.OneSample.{sample-count, sample-size, sample-ro
 use borrow.Author.Needs.{needs}
 use Rattle.draws.proofs.sample.sample_records.Statement.{statement}
 use Rattle.draws.proofs.sample.sample_records.Tie as tie
-use Rattle.draws.proofs.sample.sample_records.Reads as reads
-use Rattle.draws.proofs.sample.sample_records.Lts as lts
-use Rattle.draws.proofs.sample.count_up.Reads as count-up-reads
-use Rattle.draws.proofs.sample.draw_sample.Reads as draw-sample-reads
-use Rattle.rolls.proofs.answer.refused_answer.Reads as refused-answer-reads
 
 -- the number of bounds, n - k
 abbrev bound-total : tie.Else5 → ℕ
@@ -31,22 +27,18 @@ laid : (w : tie.After-count-up)
     → take (bound-total (w .before .before)) (w .count-up .last .0 ++ drop (bound-total (w .before .before)) (replicate {A = ℕ} 16384 0)) ≡ w .count-up .last .0
 laid w = prefix-back (replicate 16384 0) (w .count-up .last .0) (bound-total (w .before .before)) (fits (w .before .before)) (w .count-up .kept .0)
 
--- src/sample.rt:110:9
 refused-answer-requires : tie.Need-refused-answer-requires
 refused-answer-requires c κs = search needs
 
--- src/sample.rt:110:9
 returns : tie.Need-returns
 returns c = let a = c .before .before .before .before .before .args in
     refused-seen _ 2 0 _ _ _
     (sample-count (a .words .now) (a .start) (a .records .now) (a .k) (length (a .slots .now)) (above-count 0 16384 (length (a .records .now)) (c .before .if1 .taken)))
     (c .refused-answer .ensures)
 
--- src/sample.rt:113:9
 refused-answer-requires-2 : tie.Need-refused-answer-requires-2
 refused-answer-requires-2 c κs = search needs
 
--- src/sample.rt:113:9
 returns-2 : tie.Need-returns-2
 returns-2 c = let a = c .before .before .before .before .before .before .args in
     refused-seen _ 3 0 _ _ _
@@ -54,11 +46,9 @@ returns-2 c = let a = c .before .before .before .before .before .before .args in
     (below-count 1 (length (a .records .now)) (a .k) (c .before .if2 .taken)))
     (c .refused-answer2 .ensures)
 
--- src/sample.rt:116:9
 refused-answer-requires-3 : tie.Need-refused-answer-requires-3
 refused-answer-requires-3 c κs = search needs
 
--- src/sample.rt:116:9
 returns-3 : tie.Need-returns-3
 returns-3 c = let a = c .before .before .before .before .before .before .before .args in
     refused-seen _ 3 0 _ _ _
@@ -66,11 +56,9 @@ returns-3 c = let a = c .before .before .before .before .before .before .before 
     (above-count 1 (length (a .records .now)) (a .k) (c .before .if3 .taken)))
     (c .refused-answer3 .ensures)
 
--- src/sample.rt:119:9
 refused-answer-requires-4 : tie.Need-refused-answer-requires-4
 refused-answer-requires-4 c κs = search needs
 
--- src/sample.rt:119:9
 returns-4 : tie.Need-returns-4
 returns-4 c = let a = c .before .before .before .before .before .before .before .before .args in
     refused-seen _ 6 0 _ _ _
@@ -78,11 +66,9 @@ returns-4 c = let a = c .before .before .before .before .before .before .before 
     (in-count 1 (length (a .records .now)) (a .k) (search needs) (search needs)) (lt-ltb _ _ (c .before .if4 .taken)))
     (c .refused-answer4 .ensures)
 
--- src/sample.rt:122:9
 refused-answer-requires-5 : tie.Need-refused-answer-requires-5
 refused-answer-requires-5 c κs = search needs
 
--- src/sample.rt:122:9
 returns-5 : tie.Need-returns-5
 returns-5 c = let a = c .before .before .before .before .before .before .before .before .before .args in
     refused-seen _ 9 0 _ _ _
@@ -90,36 +76,29 @@ returns-5 c = let a = c .before .before .before .before .before .before .before 
     (in-count 1 (length (a .records .now)) (a .k) (search needs) (search needs)) (le-ltb _ _ (c .before .before .if4 .left)) (c .before .if5 .taken))
     (c .refused-answer5 .ensures)
 
--- src/sample.rt:126:14
 array-borrow-prefix-bounds : tie.Need-array-borrow-prefix-bounds
 array-borrow-prefix-bounds c = search needs
 
--- src/sample.rt:126:14
 slice-aggregate-count-up : tie.Need-slice-aggregate-count-up
 slice-aggregate-count-up c = prefix-count (replicate 16384 0) (bound-total (c .before)) (fits (c .before))
 
--- src/sample.rt:126:36
 add-count-up : tie.Need-add-count-up
 add-count-up c = search needs
 
--- src/sample.rt:126:5
 count-up-requires : tie.Need-count-up-requires
 count-up-requires c κs = let e = c .before in
     omega (arith, prefix-count (replicate 16384 0) (bound-total e) (fits e), fits e, e .before .before .before .before .if1 .left, length-replicate {A = ℕ} 16384 0)
 
--- src/sample.rt:127:43
 array-share-prefix-bounds : tie.Need-array-share-prefix-bounds
 array-share-prefix-bounds c = let w = c .before in
     let e = w .before .before in
     rw (array-kept (replicate 16384 0) (w .count-up .last .0) (bound-total e) (fits e) (w .count-up .kept .0)) (fits e)
 
--- src/sample.rt:127:43
 slice-aggregate-draw-sample : tie.Need-slice-aggregate-draw-sample
 slice-aggregate-draw-sample c = let w = c .before .before in
     let e = w .before .before in
     rw (laid w) (prefix-count (replicate 16384 0) (bound-total e) (fits e) ∙ sym (w .count-up .kept .0))
 
--- src/sample.rt:127:5
 draw-sample-requires : tie.Need-draw-sample-requires
 draw-sample-requires c κs = let w = c .before .before .before in
     let e = w .before .before in (
@@ -127,11 +106,9 @@ draw-sample-requires c κs = let w = c .before .before .before in
       laid w ∙ w .count-up .ensures ∙ ap (λ (m : ℕ). countup m (e .before .before .before .before .before .before .before .before .args .k + 1)) (sym (prefix-count (replicate 16384 0) (bound-total e) (fits e))),
     )
 
--- src/sample.rt:104:1
 same-length : tie.Need-same-length
 same-length c = search needs
 
--- src/sample.rt:104:1
 returns-6 : tie.Need-returns-6
 returns-6 c = search needs
 

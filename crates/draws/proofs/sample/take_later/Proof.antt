@@ -1,13 +1,11 @@
+-- `take_later` meets its contract: the invariant is `Later`; a record takes a slot or passes. Assumes nothing.
 use Prim.Native.Nat.{_-_, _<_}
 use mathlib.Core.Logic.{⊎-elim}
-use native.Mathlib.Omega.{arith}
 use borrow.Author.Needs.{needs}
 use lib.ListN.{length}
 use Rattle.draws.proofs.Sampling.{Later, later-none, later-taken, later-passed, later-done}
 use Rattle.draws.proofs.sample.take_later.Statement.{statement}
 use Rattle.draws.proofs.sample.take_later.Tie as tie
-use Rattle.draws.proofs.sample.take_later.Reads as reads
-use Rattle.draws.proofs.sample.take_later.Lts as lts
 
 abbrev Inv-loop : tie.InvT-loop
 Inv-loop records k rolls slots₀ i₀ slots i = Later records k rolls slots₀ slots i
@@ -15,47 +13,36 @@ Inv-loop records k rolls slots₀ i₀ slots i = Later records k rolls slots₀ 
 abbrev μ-loop : tie.MeasureT-loop
 μ-loop records k rolls slots₀ i₀ slots i = length rolls - i
 
--- src/sample.rt:54:5
 loop-holds : tie.Need-loop-holds Inv-loop μ-loop
 loop-holds c = later-none (c .args .records .now) (c .args .k) (c .args .rolls .now) (c .args .slots .now)
 
--- src/sample.rt:55:17
 mul-j : tie.Need-mul-j Inv-loop μ-loop
 mul-j c = search needs
 
--- src/sample.rt:55:17
 shared-slice-read-j : tie.Need-shared-slice-read-j Inv-loop μ-loop
 shared-slice-read-j c = search needs
 
--- src/sample.rt:57:32
 add-slots : tie.Need-add-slots Inv-loop μ-loop
 add-slots c = search needs
 
--- src/sample.rt:57:24
 mul-slots : tie.Need-mul-slots Inv-loop μ-loop
 mul-slots c = search needs
 
--- src/sample.rt:57:24
 shared-slice-read-slots : tie.Need-shared-slice-read-slots Inv-loop μ-loop
 shared-slice-read-slots c = search needs
 
--- src/sample.rt:57:13
 mul-slots-2 : tie.Need-mul-slots-2 Inv-loop μ-loop
 mul-slots-2 c = search needs
 
--- src/sample.rt:57:13
 slice-write-slots : tie.Need-slice-write-slots Inv-loop μ-loop
 slice-write-slots c = search needs
 
--- src/sample.rt:59:9
 add-i : tie.Need-add-i Inv-loop μ-loop
 add-i c = search needs
 
--- src/sample.rt:54:5
 loop-less : tie.Need-loop-less Inv-loop μ-loop
 loop-less c = search needs
 
--- src/sample.rt:54:5
 loop-again : tie.Need-loop-again Inv-loop μ-loop
 loop-again c = let b = c .before .before .before in
     let s = b .before in
@@ -65,11 +52,9 @@ loop-again c = let b = c .before .before .before in
     (λ w. rw (w .1) (later-passed (s .args .records .now) (s .args .k) (s .args .rolls .now) (s .args .slots .now) (b .loop .slots) (b .loop .i) (b .loop .inv) h (s .pre .0) (s .pre .1) (w .0 .left)))
     (c .if1 .came)
 
--- src/sample.rt:49:1
 same-length : tie.Need-same-length Inv-loop μ-loop
 same-length c = search needs
 
--- src/sample.rt:49:1
 returns : tie.Need-returns Inv-loop μ-loop
 returns c = let b = c .before in
     let s = b .before in

@@ -1,32 +1,25 @@
-use mathlib.Core.Path.{sym}
+-- `batch_size` meets its contract, range by range. Assumes nothing.
 use borrow.Author.Tests.{le-leb, lt-leb}
 use Rattle.arithmetic.specs.Width.{size64}
 use borrow.Author.Needs.{needs}
 use Rattle.draws.proofs.shuffle.batch_size.Statement.{statement}
 use Rattle.draws.proofs.shuffle.batch_size.Tie as tie
-use Rattle.draws.proofs.shuffle.batch_size.Reads as reads
-use Rattle.draws.proofs.shuffle.batch_size.Lts as lts
 
--- src/shuffle.rt:33:16
 sub-result : tie.Need-sub-result
 sub-result c = search needs
 
--- src/shuffle.rt:33:9
 returns : tie.Need-returns
 unfolding size64
 returns c = rw (le-leb _ _ (c .if1 .taken), size64)
 
--- src/shuffle.rt:36:9
 returns-2 : tie.Need-returns-2
 unfolding size64
 returns-2 c = rw (lt-leb _ _ (c .before .if1 .left), le-leb _ _ (c .if2 .taken), size64)
 
--- src/shuffle.rt:39:9
 returns-3 : tie.Need-returns-3
 unfolding size64
 returns-3 c = rw (lt-leb _ _ (c .before .before .if1 .left), lt-leb _ _ (c .before .if2 .left), le-leb _ _ (c .if3 .taken), size64)
 
--- src/shuffle.rt:28:1
 returns-4 : tie.Need-returns-4
 unfolding size64
 returns-4 c = rw (lt-leb _ _ (c .before .before .if1 .left), lt-leb _ _ (c .before .if2 .left), lt-leb _ _ (c .if3 .left), size64)

@@ -1,48 +1,37 @@
+-- `exchange_records` meets its contract: two stores. Assumes nothing.
 use mathlib.Core.Path.{refl}
 use Rattle.draws.specs.Shuffle.{exchange}
 use borrow.Author.Needs.{needs}
 use Rattle.draws.proofs.shuffle.exchange_records.Statement.{statement}
 use Rattle.draws.proofs.shuffle.exchange_records.Tie as tie
-use Rattle.draws.proofs.shuffle.exchange_records.Reads as reads
-use Rattle.draws.proofs.shuffle.exchange_records.Lts as lts
 
--- src/shuffle.rt:96:18
 mul-record : tie.Need-mul-record
 mul-record c = search needs
 
--- src/shuffle.rt:96:18
 slice-read-record : tie.Need-slice-read-record
 slice-read-record c = search needs
 
--- src/shuffle.rt:97:18
 mul-records : tie.Need-mul-records
 mul-records c = search needs
 
--- src/shuffle.rt:97:18
 slice-read-records : tie.Need-slice-read-records
 slice-read-records c = search needs
 
--- src/shuffle.rt:97:5
 mul-records-2 : tie.Need-mul-records-2
 mul-records-2 c = search needs
 
--- src/shuffle.rt:97:5
 slice-write-records : tie.Need-slice-write-records
 slice-write-records c = search needs
 
--- src/shuffle.rt:98:5
 mul-records-3 : tie.Need-mul-records-3
 mul-records-3 c = search needs
 
--- src/shuffle.rt:98:5
 slice-write-records-2 : tie.Need-slice-write-records-2
 slice-write-records-2 c = search needs
 
--- src/shuffle.rt:92:1
 same-length : tie.Need-same-length
 same-length c = search needs
 
--- src/shuffle.rt:92:1
 returns : tie.Need-returns
 unfolding exchange
 returns c = refl

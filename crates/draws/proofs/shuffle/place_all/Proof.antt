@@ -1,3 +1,4 @@
+-- `place_all` meets its contract: the invariant is `Shuffling`. That a word is missing cannot be, since the words suffice. Assumes nothing.
 use mathlib.Core.Path.{_∙_, sym}
 use Prim.Native.Nat.{_≤_}
 use native.Mathlib.Omega.{arith}
@@ -5,13 +6,6 @@ use borrow.Author.Needs.{needs}
 use Rattle.draws.proofs.Shuffling.{Shuffling, shuffle-none, shuffle-turn, shuffle-never, shuffle-done, batch-less, batch-fits}
 use Rattle.draws.proofs.shuffle.place_all.Statement.{statement}
 use Rattle.draws.proofs.shuffle.place_all.Tie as tie
-use Rattle.draws.proofs.shuffle.place_all.Reads as reads
-use Rattle.draws.proofs.shuffle.place_all.Lts as lts
-use Rattle.arithmetic.proofs.bounds.threshold_of.Reads as threshold-of-reads
-use Rattle.draws.proofs.shuffle.batch_size.Reads as batch-size-reads
-use Rattle.draws.proofs.shuffle.place_batch.Reads as place-batch-reads
-use Rattle.draws.proofs.shuffle.product_down.Reads as product-down-reads
-use Rattle.rolls.proofs.search.find_word.Reads as find-word-reads
 
 abbrev Inv-loop : tie.InvT-loop
 Inv-loop words start records₀ next₀ m₀ records next m = Shuffling words start records₀ records next m
@@ -22,42 +16,34 @@ abbrev μ-loop : tie.MeasureT-loop
 few : (b : tie.At-loop Inv-loop μ-loop) → b .loop .m ≤ 16384
 few b = omega (arith, b .loop .inv .1, b .before .before .before .pre .1)
 
--- src/shuffle.rt:126:5
 loop-holds : tie.Need-loop-holds Inv-loop μ-loop
 loop-holds c = let s = c .before .before in shuffle-none (s .args .words .now) (s .args .start) (s .args .records .now) (s .pre .0) (s .pre .2)
 
--- src/shuffle.rt:127:13
 batch-size-requires : tie.Need-batch-size-requires Inv-loop μ-loop
 batch-size-requires c κs = search needs
 
--- src/shuffle.rt:128:13
 product-down-requires : tie.Need-product-down-requires Inv-loop μ-loop
 product-down-requires c κs = let b = c .before .before in (
   omega (arith, batch-less (b .loop .m) (c .batch-size .result) (c .before .loop-test .taken) (few b) (c .batch-size .ensures)),
   batch-fits (b .loop .m) (c .batch-size .result) (c .before .loop-test .taken) (few b) (c .batch-size .ensures) .1,
 )
 
--- src/shuffle.rt:129:41
 threshold-of-requires : tie.Need-threshold-of-requires Inv-loop μ-loop
 threshold-of-requires c κs = let z = c .before in
     let b = z .before .before in
     rw (c .product-down .ensures) (batch-fits (b .loop .m) (z .batch-size .result) (z .before .loop-test .taken) (few b) (z .batch-size .ensures) .0)
 
--- src/shuffle.rt:129:15
 find-word-requires : tie.Need-find-word-requires Inv-loop μ-loop
 find-word-requires c κs = search needs
 
--- src/shuffle.rt:131:17
 enum-known-word : tie.Need-enum-known-word Inv-loop μ-loop
 enum-known-word c = search needs
 
--- src/shuffle.rt:135:17
 place-batch-requires : tie.Need-place-batch-requires Inv-loop μ-loop
 place-batch-requires c κs = let z = c .before .before .before .before .before .before .before in
     let b = z .before .before in
     (omega (arith, batch-less (b .loop .m) (z .batch-size .result) (z .before .loop-test .taken) (few b) (z .batch-size .ensures)), omega (arith, b .loop .inv .1, b .loop .inv .2))
 
--- src/shuffle.rt:126:5
 loop-again : tie.Need-loop-again Inv-loop μ-loop
 loop-again c = let w = c .before .before .before .before .before in
     let z = w .before .before .before .before .before in
@@ -67,31 +53,25 @@ loop-again c = let w = c .before .before .before .before .before in
     _ _ (w .before .before .before .before .product-down .ensures) (w .before .before .before .threshold-of .ensures)
     _ _ _ (sym (w .before .before .find-word .ensures) ∙ w .word .given .1) _ (c .before .before .place-batch .ensures)
 
--- src/shuffle.rt:136:24
 add-next : tie.Need-add-next Inv-loop μ-loop
 add-next c = let v = loop-again c in omega (arith, v .0)
 
--- src/shuffle.rt:137:17
 sub-m : tie.Need-sub-m Inv-loop μ-loop
 sub-m c = let z = c .before .before .before .before .before .before .before .before .before .before in
     let b = z .before .before in
     omega (arith, batch-less (b .loop .m) (z .batch-size .result) (z .before .loop-test .taken) (few b) (z .batch-size .ensures))
 
--- src/shuffle.rt:126:5
 loop-less : tie.Need-loop-less Inv-loop μ-loop
 loop-less c = let z = c .before .before .before .before .before .before .before .before .before .before in
     let b = z .before .before in
     omega (arith, batch-less (b .loop .m) (z .batch-size .result) (z .before .loop-test .taken) (few b) (z .batch-size .ensures))
 
--- src/shuffle.rt:140:17
 enum-told : tie.Need-enum-told Inv-loop μ-loop
 enum-told c = search needs
 
--- src/shuffle.rt:140:17
 same-length : tie.Need-same-length Inv-loop μ-loop
 same-length c = search needs
 
--- src/shuffle.rt:140:17
 returns : tie.Need-returns Inv-loop μ-loop
 returns c = let z = c .before .before .before .before .before in
     let b = z .before .before in
@@ -100,11 +80,9 @@ returns c = let z = c .before .before .before .before .before in
     _ _ (c .before .before .before .before .product-down .ensures) (c .before .before .before .threshold-of .ensures)
     (sym (c .before .before .find-word .ensures) ∙ c .enum-told .given .1))
 
--- src/shuffle.rt:120:1
 same-length-2 : tie.Need-same-length-2 Inv-loop μ-loop
 same-length-2 c = search needs
 
--- src/shuffle.rt:120:1
 returns-2 : tie.Need-returns-2 Inv-loop μ-loop
 returns-2 c =
     let s = c .before .before .before .before in

@@ -1,13 +1,9 @@
+-- `place_batch` meets its contract: the invariant is `Placing`, one exchange a turn; a roll is below its bound. Assumes nothing.
 use native.Mathlib.Omega.{arith}
 use borrow.Author.Needs.{needs}
 use Rattle.draws.proofs.Placing.{Placing, place-none, place-turn, place-done, roll-below}
 use Rattle.draws.proofs.shuffle.place_batch.Statement.{statement}
 use Rattle.draws.proofs.shuffle.place_batch.Tie as tie
-use Rattle.draws.proofs.shuffle.place_batch.Reads as reads
-use Rattle.draws.proofs.shuffle.place_batch.Lts as lts
-use Rattle.arithmetic.proofs.wide.high.Reads as high-reads
-use Rattle.arithmetic.proofs.wide.low.Reads as low-reads
-use Rattle.draws.proofs.shuffle.exchange_records.Reads as exchange-records-reads
 
 abbrev Inv-loop : tie.InvT-loop
 Inv-loop records₀ m s word r₀ bound₀ left₀ records r bound left = Placing 64 records₀ m s word records r bound left
@@ -15,27 +11,21 @@ Inv-loop records₀ m s word r₀ bound₀ left₀ records r bound left = Placin
 abbrev μ-loop : tie.MeasureT-loop
 μ-loop records₀ m s word r₀ bound₀ left₀ records r bound left = left
 
--- src/shuffle.rt:110:5
 loop-holds : tie.Need-loop-holds Inv-loop μ-loop
 loop-holds c = let s = c .before in place-none _ _ _ _ _ (s .pre .0) (s .pre .1) (s .fits .word .fits)
 
--- src/shuffle.rt:111:13
 high-requires : tie.Need-high-requires Inv-loop μ-loop
 high-requires c κs = search needs
 
--- src/shuffle.rt:112:9
 low-requires : tie.Need-low-requires Inv-loop μ-loop
 low-requires c κs = search needs
 
--- src/shuffle.rt:113:9
 sub-bound : tie.Need-sub-bound Inv-loop μ-loop
 sub-bound c = search needs
 
--- src/shuffle.rt:114:9
 sub-left : tie.Need-sub-left Inv-loop μ-loop
 sub-left c = search needs
 
--- src/shuffle.rt:115:9
 exchange-records-requires : tie.Need-exchange-records-requires Inv-loop μ-loop
 exchange-records-requires c κs = let h = c .before .before in
     let b = h .before .before in
@@ -44,21 +34,17 @@ exchange-records-requires c κs = let h = c .before .before in
     let r = roll-below 64 (b .loop .bound) (b .loop .r) (omega (arith, t, v .0)) (v .3) in
     (omega (arith, h .high .ensures, r, v .1, v .2), omega (arith, t, v .0, v .1, v .2))
 
--- src/shuffle.rt:110:5
 loop-less : tie.Need-loop-less Inv-loop μ-loop
 loop-less c = omega (arith, c .before .before .before .before .before .before .loop-test .taken)
 
--- src/shuffle.rt:110:5
 loop-again : tie.Need-loop-again Inv-loop μ-loop
 loop-again c = let h = c .before .before .before .before .before in
     rw (c .before .before .exchange-records .ensures)
     (place-turn _ _ _ _ _ _ _ _ _ (h .before .before .loop .inv) _ _ (h .before .loop-test .taken) (h .high .ensures) (c .before .before .before .before .low .ensures))
 
--- src/shuffle.rt:103:1
 same-length : tie.Need-same-length Inv-loop μ-loop
 same-length c = search needs
 
--- src/shuffle.rt:103:1
 returns : tie.Need-returns Inv-loop μ-loop
 returns c = place-done _ _ _ _ _ _ _ _ _ (c .before .loop .inv) (search needs)
 

@@ -1,4 +1,5 @@
-use mathlib.Core.Path.{_≡_, _∙_, sym, ap}
+-- `shuffle_records` meets its contract, refusal by refusal (OneShuffle). Assumes nothing.
+use mathlib.Core.Path.{_∙_, sym}
 use lib.ListN.{length}
 use Rattle.arithmetic.specs.Width.{size64}
 use Rattle.rolls.specs.Run.{run}
@@ -9,39 +10,27 @@ use Rattle.draws.proofs.OneShuffle.{shuffle-count, shuffle-start, shuff
 use borrow.Author.Needs.{needs}
 use Rattle.draws.proofs.shuffle.shuffle_records.Statement.{statement}
 use Rattle.draws.proofs.shuffle.shuffle_records.Tie as tie
-use Rattle.draws.proofs.shuffle.shuffle_records.Reads as reads
-use Rattle.draws.proofs.shuffle.shuffle_records.Lts as lts
-use Rattle.draws.proofs.shuffle.place_all.Reads as place-all-reads
-use Rattle.draws.proofs.shuffle.supply_shuffle.Reads as supply-shuffle-reads
-use Rattle.rolls.proofs.answer.refused_answer.Reads as refused-answer-reads
 
--- src/shuffle.rt:157:9
 refused-answer-requires : tie.Need-refused-answer-requires
 refused-answer-requires c κs = search needs
 
--- src/shuffle.rt:157:9
 returns : tie.Need-returns
 returns c = let a = c .before .before .before .before .args in
     refused-seen _ 2 0 _ _ _ (shuffle-count (a .words .now) (a .start) (a .records .now) (above-count 0 16384 (length (a .records .now)) (c .before .if1 .taken))) (c .refused-answer .ensures)
 
--- src/shuffle.rt:160:9
 refused-answer-requires-2 : tie.Need-refused-answer-requires-2
 refused-answer-requires-2 c κs = search needs
 
--- src/shuffle.rt:160:9
 returns-2 : tie.Need-returns-2
 returns-2 c = let a = c .before .before .before .before .before .args in
     refused-seen _ 9 0 _ _ _ (shuffle-start (a .words .now) (a .start) (a .records .now) (in-count 0 16384 (length (a .records .now)) (search needs) (search needs)) (c .before .if2 .taken)) (c .refused-answer2 .ensures)
 
--- src/shuffle.rt:162:11
 supply-shuffle-requires : tie.Need-supply-shuffle-requires
 supply-shuffle-requires c κs = search needs
 
--- src/shuffle.rt:163:26
 enum-known-next : tie.Need-enum-known-next
 enum-known-next c = search needs
 
--- src/shuffle.rt:164:13
 place-all-requires : tie.Need-place-all-requires
 place-all-requires c κs = let e = c .before .before .before .before .before in
     let a = e .before .before .before .before .args in (
@@ -51,19 +40,15 @@ place-all-requires c κs = let e = c .before .before .before .before .before in
           (sym (c .before .before .before .before .supply-shuffle .ensures) ∙ c .before .before .next .given .1) .enough,
     )
 
--- src/shuffle.rt:172:25
 enum-known-batch : tie.Need-enum-known-batch
 enum-known-batch c = search needs
 
--- src/shuffle.rt:172:36
 refused-answer-requires-3 : tie.Need-refused-answer-requires-3
 refused-answer-requires-3 c κs = search needs
 
--- src/shuffle.rt:152:1
 same-length : tie.Need-same-length
 same-length c = search needs
 
--- src/shuffle.rt:152:1
 returns-3 : tie.Need-returns-3
 returns-3 c = let n = c .before .before .before .before .before in
     let e = n .before .before .before in
@@ -73,7 +58,6 @@ returns-3 c = let n = c .before .before .before .before .before in
     (sym (n .before .before .supply-shuffle .ensures) ∙ n .next .given .1))
     (c .before .before .place-all .ensures ∙ whole-list _ (a .records .now) (length-shuffle (length (a .records .now)) _ (a .records .now)))
 
--- src/shuffle.rt:152:1
 returns-4 : tie.Need-returns-4
 returns-4 c = let b = c .before .before in
     let e = b .before .before .before in

@@ -1,5 +1,6 @@
-use mathlib.Core.Path.{_≡_, _∙_, sym, ap}
-use Prim.Native.Nat.{_≤_, _<_}
+-- `draw_batch` meets its contract: the start, then the search for the word, then its rolls in front of zeros. Assumes nothing.
+use mathlib.Core.Path.{_∙_, sym, ap}
+use Prim.Native.Nat.{_≤_}
 use native.Mathlib.Omega.{arith}
 use lib.ListN.{length}
 use Rattle.rolls.specs.Outcome.{shownBatch}
@@ -7,39 +8,27 @@ use Rattle.rolls.proofs.OneBatch.{few-bounds, one-start, one-searched, 
 use borrow.Author.Needs.{needs}
 use Rattle.rolls.proofs.batch.draw_batch.Statement.{statement}
 use Rattle.rolls.proofs.batch.draw_batch.Tie as tie
-use Rattle.rolls.proofs.batch.draw_batch.Reads as reads
-use Rattle.rolls.proofs.batch.draw_batch.Lts as lts
-use Rattle.rolls.proofs.answer.refused_batch.Reads as refused-batch-reads
-use Rattle.rolls.proofs.search.find_word.Reads as find-word-reads
-use Rattle.rolls.proofs.unfold.write_rolls.Reads as write-rolls-reads
 
--- src/batch.rt:33:9
 refused-batch-requires : tie.Need-refused-batch-requires
 refused-batch-requires c κs = search needs
 
--- src/batch.rt:33:9
 returns : tie.Need-returns
 returns c = let s = c .before .before .before .before in
     let a = s .args in
     c .refused-batch .ensures ∙ ap (shownBatch (a .start)) (sym (one-start (a .words .now) (a .start) (a .bounds .now) (s .pre .0 .0) (s .pre .0 .1) (s .pre .0 .2) (c .before .if1 .taken)))
 
--- src/batch.rt:35:11
 find-word-requires : tie.Need-find-word-requires
 find-word-requires c κs = search needs
 
--- src/batch.rt:37:13
 enum-known-word : tie.Need-enum-known-word
 enum-known-word c = search needs
 
--- src/batch.rt:42:39
 slice-aggregate-write-rolls : tie.Need-slice-aggregate-write-rolls
 slice-aggregate-write-rolls c = search needs
 
--- src/batch.rt:42:13
 write-rolls-requires : tie.Need-write-rolls-requires
 write-rolls-requires c κs = let s = c .before .before .before .before .before .before .before .before in few-bounds (s .args .bounds .now) (s .pre .0 .0)
 
--- src/batch.rt:45:23
 add-t17 : tie.Need-add-t17
 add-t17 c = let k = c .before .before .before .before in
     let s = k .before .before .before .before .before .before in
@@ -51,15 +40,12 @@ add-t17 c = let k = c .before .before .before .before in
           (sym (k .before .before .find-word .ensures) ∙ k .word .given .1) .1,
     )
 
--- src/batch.rt:51:28
 enum-told : tie.Need-enum-told
 enum-told c = search needs
 
--- src/batch.rt:51:28
 refused-batch-requires-2 : tie.Need-refused-batch-requires-2
 refused-batch-requires-2 c κs = search needs
 
--- src/batch.rt:27:1
 returns-2 : tie.Need-returns-2
 returns-2 c = let k = c .before .before .before .before in
     let s = k .before .before .before .before .before .before in
@@ -69,7 +55,6 @@ returns-2 c = let k = c .before .before .before .before in
     ∙ ap (shownBatch (a .start)) (sym (one-searched (a .words .now) (a .start) (a .bounds .now) (s .pre .0 .0) (s .pre .0 .1) (s .pre .0 .2) h (a .b) (a .t) (s .pre .1 .0) (s .pre .1 .1) (k .word .given .0 .0) (k .word .given .0 .1 .0) (k .word .given .0 .1 .1 .0)
     (sym (k .before .before .find-word .ensures) ∙ k .word .given .1) .0))
 
--- src/batch.rt:27:1
 returns-3 : tie.Need-returns-3
 returns-3 c = let s = c .before .before .before .before .before .before .before in
     let a = s .args in

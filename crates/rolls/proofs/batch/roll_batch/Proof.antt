@@ -1,71 +1,53 @@
-use mathlib.Core.Path.{_≡_, _∙_, sym, ap}
-use native.Mathlib.Omega.{arith}
+-- `roll_batch` meets its contract, refusal by refusal (OneBatch); the product is held against 2^64. Assumes nothing.
+use mathlib.Core.Path.{_∙_, sym, ap}
 use lib.ListN.{length}
 use Rattle.arithmetic.specs.Rolls.{product}
 use Rattle.arithmetic.proofs.Limits.{held-below, product-pos}
 use Rattle.rolls.specs.Outcome.{shownBatch}
 use Rattle.rolls.proofs.Deciding.{in-count, below-count, above-count}
-use Rattle.rolls.proofs.OneBatch.{one-count, one-zero, one-product, Rollable, rollable-below, rollable-whole, above-refused}
+use Rattle.rolls.proofs.OneBatch.{one-count, one-zero, one-product, rollable-below, rollable-whole, above-refused}
 use borrow.Author.Needs.{needs}
 use Rattle.rolls.proofs.batch.roll_batch.Statement.{statement}
 use Rattle.rolls.proofs.batch.roll_batch.Tie as tie
-use Rattle.rolls.proofs.batch.roll_batch.Reads as reads
-use Rattle.rolls.proofs.batch.roll_batch.Lts as lts
-use Rattle.arithmetic.proofs.bounds.has_zero.Reads as has-zero-reads
-use Rattle.arithmetic.proofs.bounds.product_of.Reads as product-of-reads
-use Rattle.arithmetic.proofs.bounds.threshold_of.Reads as threshold-of-reads
-use Rattle.rolls.proofs.answer.refused_batch.Reads as refused-batch-reads
-use Rattle.rolls.proofs.batch.draw_batch.Reads as draw-batch-reads
 
--- src/batch.rt:65:9
 refused-batch-requires : tie.Need-refused-batch-requires
 refused-batch-requires c κs = search needs
 
--- src/batch.rt:65:9
 returns : tie.Need-returns
 returns c = let a = c .before .before .before .before .args in
     c .refused-batch .ensures ∙ ap (shownBatch (a .start)) (sym (one-count (a .words .now) (a .start) (a .bounds .now) (below-count 1 16 (length (a .bounds .now)) (c .before .if1 .taken))))
 
--- src/batch.rt:68:9
 refused-batch-requires-2 : tie.Need-refused-batch-requires-2
 refused-batch-requires-2 c κs = search needs
 
--- src/batch.rt:68:9
 returns-2 : tie.Need-returns-2
 returns-2 c = let a = c .before .before .before .before .before .args in
     c .refused-batch2 .ensures ∙ ap (shownBatch (a .start)) (sym (one-count (a .words .now) (a .start) (a .bounds .now) (above-count 1 16 (length (a .bounds .now)) (c .before .if2 .taken))))
 
--- src/batch.rt:70:8
 has-zero-requires : tie.Need-has-zero-requires
 has-zero-requires c κs = search needs
 
--- src/batch.rt:71:9
 refused-batch-requires-3 : tie.Need-refused-batch-requires-3
 refused-batch-requires-3 c κs = search needs
 
--- src/batch.rt:71:9
 returns-3 : tie.Need-returns-3
 returns-3 c = let a = c .before .before .before .before .before .before .before .args in
     c .refused-batch3 .ensures
     ∙ ap (shownBatch (a .start)) (sym (one-zero (a .words .now) (a .start) (a .bounds .now) (in-count 1 16 (length (a .bounds .now)) (search needs) (search needs))
     (sym (c .before .before .has-zero .ensures) ∙ c .before .if3 .taken)))
 
--- src/batch.rt:73:11
 product-of-requires : tie.Need-product-of-requires
 product-of-requires c κs = sym (c .before .has-zero .ensures) ∙ c .if3 .left
 
--- src/batch.rt:74:24
 enum-known-b : tie.Need-enum-known-b
 enum-known-b c = search needs
 
--- src/batch.rt:74:66
 threshold-of-requires : tie.Need-threshold-of-requires
 threshold-of-requires c κs = let p = c .before .before .before in
     let bs = p .before .before .before .before .before .before .before .args .bounds .now in
     rw (held-below (product bs) (c .before .b .given .0 .0) (sym (p .product-of .ensures) ∙ c .before .b .given .1) .0)
     (product-pos bs (sym (p .before .before .has-zero .ensures) ∙ p .before .if3 .left))
 
--- src/batch.rt:74:30
 draw-batch-requires : tie.Need-draw-batch-requires
 draw-batch-requires c κs = let k = c .before .before in
     let p = k .before .before in
@@ -73,34 +55,27 @@ draw-batch-requires c κs = let k = c .before .before in
     let o = rollable-below bs (k .b .given .0 .0) (sym (p .product-of .ensures) ∙ k .b .given .1) _ (c .threshold-of .ensures) in
     ((in-count 1 16 (length bs) (search needs) (search needs), sym (p .before .before .has-zero .ensures) ∙ p .before .if3 .left, o .fits), (o .wraps, o .least))
 
--- src/batch.rt:75:27
 enum-told : tie.Need-enum-told
 enum-told c = search needs
 
--- src/batch.rt:75:27
 draw-batch-requires-2 : tie.Need-draw-batch-requires-2
 draw-batch-requires-2 c κs = let p = c .before .before in
     let bs = p .before .before .before .before .before .before .before .args .bounds .now in
     let o = rollable-whole bs (sym (p .product-of .ensures) ∙ c .enum-told .given .1) in
     ((in-count 1 16 (length bs) (search needs) (search needs), sym (p .before .before .has-zero .ensures) ∙ p .before .if3 .left, o .fits), (o .wraps, o .least))
 
--- src/batch.rt:76:27
 enum-told-2 : tie.Need-enum-told-2
 enum-told-2 c = search needs
 
--- src/batch.rt:76:27
 refused-batch-requires-4 : tie.Need-refused-batch-requires-4
 refused-batch-requires-4 c κs = search needs
 
--- src/batch.rt:61:1
 returns-4 : tie.Need-returns-4
 returns-4 c = search needs
 
--- src/batch.rt:61:1
 returns-5 : tie.Need-returns-5
 returns-5 c = search needs
 
--- src/batch.rt:61:1
 returns-6 : tie.Need-returns-6
 returns-6 c = let p = c .before .before .before in
     let a = p .before .before .before .before .before .before .before .args in

@@ -1,13 +1,12 @@
+-- `in_range` meets its contract. The loop: what is left is in range exactly where the whole is; the measure is what is left. Assumes nothing.
 use mathlib.Core.Path.{_≡_, _∙_, sym}
-use Prim.Native.Nat.{_+_, _-_, _≤_, _<_}
+use Prim.Native.Nat.{_-_, _≤_}
 use borrow.Author.Needs.{needs}
 use lib.ListN.{length, drop}
 use Rattle.arithmetic.specs.Rolls.{inRange}
 use Rattle.rolls.proofs.Radix.{range-count, range-reached, range-below, range-end}
 use Rattle.rolls.proofs.behind.in_range.Statement.{statement}
 use Rattle.rolls.proofs.behind.in_range.Tie as tie
-use Rattle.rolls.proofs.behind.in_range.Reads as reads
-use Rattle.rolls.proofs.behind.in_range.Lts as lts
 
 abbrev Inv-loop : tie.InvT-loop
 Inv-loop bounds rolls i₀ i = (i ≤ length bounds) × (length bounds ≡ length rolls) × (inRange (drop i bounds) (drop i rolls) ≡ inRange bounds rolls)
@@ -15,51 +14,40 @@ Inv-loop bounds rolls i₀ i = (i ≤ length bounds) × (length bounds ≡ lengt
 abbrev μ-loop : tie.MeasureT-loop
 μ-loop bounds rolls i₀ i = length bounds - i
 
--- src/behind.rt:27:9
 returns : tie.Need-returns Inv-loop μ-loop
 returns c = sym (range-count _ _ (c .if1 .taken))
 
--- src/behind.rt:30:5
 loop-holds : tie.Need-loop-holds Inv-loop μ-loop
 loop-holds c = search needs
 
--- src/behind.rt:31:12
 mul-if2 : tie.Need-mul-if2 Inv-loop μ-loop
 mul-if2 c = search needs
 
--- src/behind.rt:31:12
 shared-slice-read-if2 : tie.Need-shared-slice-read-if2 Inv-loop μ-loop
 shared-slice-read-if2 c = search needs
 
--- src/behind.rt:31:24
 mul-if2-2 : tie.Need-mul-if2-2 Inv-loop μ-loop
 mul-if2-2 c = search needs
 
--- src/behind.rt:31:24
 shared-slice-read-if2-2 : tie.Need-shared-slice-read-if2-2 Inv-loop μ-loop
 shared-slice-read-if2-2 c = search needs
 
--- src/behind.rt:32:13
 returns-2 : tie.Need-returns-2 Inv-loop μ-loop
 returns-2 c = let b = c .before .before .before .before in
     let a = b .before .before .args in
     sym (range-reached (a .bounds .now) (a .rolls .now) (b .loop .i) (b .loop .inv .1) (search needs) (c .if2 .taken)) ∙ b .loop .inv .2
 
--- src/behind.rt:34:9
 add-i : tie.Need-add-i Inv-loop μ-loop
 add-i c = search needs
 
--- src/behind.rt:30:5
 loop-less : tie.Need-loop-less Inv-loop μ-loop
 loop-less c = search needs
 
--- src/behind.rt:30:5
 loop-again : tie.Need-loop-again Inv-loop μ-loop
 loop-again c = let b = c .before .before .before .before in
     let a = b .before .before .args in
     (search needs, b .loop .inv .1, range-below (a .bounds .now) (a .rolls .now) (b .loop .i) (b .loop .inv .1) (search needs) (c .if2 .left) ∙ b .loop .inv .2)
 
--- src/behind.rt:23:1
 returns-3 : tie.Need-returns-3 Inv-loop μ-loop
 returns-3 c = let b = c .before in
     let a = b .before .before .args in

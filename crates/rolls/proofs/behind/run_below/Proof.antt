@@ -1,3 +1,4 @@
+-- `run_below` meets its contract: the first word by a division rounded up, the last by the number of words less one. Assumes nothing.
 use mathlib.Core.Path.{_≡_}
 use Prim.Native.Nat.{_-_, _^_}
 use native.Mathlib.Omega.{arith}
@@ -5,35 +6,24 @@ use Rattle.rolls.proofs.Radix.{first-fits, run-last, run-found}
 use borrow.Author.Needs.{needs}
 use Rattle.rolls.proofs.behind.run_below.Statement.{statement}
 use Rattle.rolls.proofs.behind.run_below.Tie as tie
-use Rattle.rolls.proofs.behind.run_below.Reads as reads
-use Rattle.rolls.proofs.behind.run_below.Lts as lts
-use Rattle.arithmetic.proofs.bounds.threshold_of.Reads as threshold-of-reads
-use Rattle.arithmetic.proofs.divide.divide_up.Reads as divide-up-reads
-use Rattle.std.proofs.num.wrapping_sub_u64.Reads as wrapping-sub-u64-reads
 
--- src/behind.rt:59:30
 threshold-of-requires : tie.Need-threshold-of-requires
 threshold-of-requires c κs = search needs
 
--- src/behind.rt:59:9
 divide-up-requires : tie.Need-divide-up-requires
 divide-up-requires c κs = let s = c .before in (s .pre, first-fits _ _ _ (s .pre) (s .fits .b .fits) (c .threshold-of .ensures))
 
--- src/behind.rt:65:23
 wrapping-sub-u64-requires : tie.Need-wrapping-sub-u64-requires
 wrapping-sub-u64-requires c κs = search needs
 
--- src/behind.rt:65:23
 div-t5 : tie.Need-div-t5
 div-t5 c = search needs
 
--- src/behind.rt:65:15
 add-t6 : tie.Need-add-t6
 add-t6 c = let s = c .before .before .before in
     let r : c .wrapping-sub-u64 .result ≡ 2 ^ 64 - s .args .b = omega arith in
     record { fits = run-last _ _ _ (s .pre) (s .fits .b .fits) (c .before .before .threshold-of .ensures) _ (c .before .divide-up .ensures) _ r }
 
--- src/behind.rt:55:1
 returns : tie.Need-returns
 returns c = let s = c .before .before .before in
     let r : c .wrapping-sub-u64 .result ≡ 2 ^ 64 - s .args .b = omega arith in

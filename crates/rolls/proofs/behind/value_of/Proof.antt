@@ -1,12 +1,11 @@
-use Prim.Native.Nat.{_+_, _-_, _≤_, _<_}
+-- `value_of` meets its contract: the invariant is `Reading`, the value of the rolls read so far; nothing on the way passes the value. Assumes nothing.
+use Prim.Native.Nat.{_-_}
 use native.Mathlib.Omega.{arith}
 use borrow.Author.Needs.{needs}
 use lib.ListN.{length}
 use Rattle.rolls.proofs.Radix.{range-length, Reading, reading-none, reading-turn, reading-fits, reading-done}
 use Rattle.rolls.proofs.behind.value_of.Statement.{statement}
 use Rattle.rolls.proofs.behind.value_of.Tie as tie
-use Rattle.rolls.proofs.behind.value_of.Reads as reads
-use Rattle.rolls.proofs.behind.value_of.Lts as lts
 
 abbrev Inv-loop : tie.InvT-loop
 Inv-loop bounds rolls a₀ i₀ a i = Reading bounds rolls a i
@@ -14,56 +13,45 @@ Inv-loop bounds rolls a₀ i₀ a i = Reading bounds rolls a i
 abbrev μ-loop : tie.MeasureT-loop
 μ-loop bounds rolls a₀ i₀ a i = length bounds - i
 
--- src/behind.rt:46:5
 loop-holds : tie.Need-loop-holds Inv-loop μ-loop
 loop-holds c = reading-none _ _
 
--- src/behind.rt:47:17
 mul-a : tie.Need-mul-a Inv-loop μ-loop
 mul-a c = search needs
 
--- src/behind.rt:47:17
 shared-slice-read-a : tie.Need-shared-slice-read-a Inv-loop μ-loop
 shared-slice-read-a c = search needs
 
--- src/behind.rt:47:13
 mul-a-2 : tie.Need-mul-a-2 Inv-loop μ-loop
 mul-a-2 c = let b = c .before .before in
     let s = b .before in
     let n = range-length (s .args .bounds .now) (s .args .rolls .now) (s .pre .0) in
     record { fits = reading-fits _ _ _ _ (b .loop .inv) (search needs) (omega (arith, n)) (s .pre .0) (s .pre .1) .0 }
 
--- src/behind.rt:47:29
 mul-a-3 : tie.Need-mul-a-3 Inv-loop μ-loop
 mul-a-3 c = search needs
 
--- src/behind.rt:47:29
 shared-slice-read-a-2 : tie.Need-shared-slice-read-a-2 Inv-loop μ-loop
 shared-slice-read-a-2 c = let s = c .before .before .before .before in omega (arith, range-length (s .args .bounds .now) (s .args .rolls .now) (s .pre .0))
 
--- src/behind.rt:47:13
 add-a : tie.Need-add-a Inv-loop μ-loop
 add-a c = let b = c .before .before .before in
     let s = b .before in
     let n = range-length (s .args .bounds .now) (s .args .rolls .now) (s .pre .0) in
     record { fits = reading-fits _ _ _ _ (b .loop .inv) (search needs) (omega (arith, n)) (s .pre .0) (s .pre .1) .1 }
 
--- src/behind.rt:48:9
 add-i : tie.Need-add-i Inv-loop μ-loop
 add-i c = search needs
 
--- src/behind.rt:46:5
 loop-less : tie.Need-loop-less Inv-loop μ-loop
 loop-less c = search needs
 
--- src/behind.rt:46:5
 loop-again : tie.Need-loop-again Inv-loop μ-loop
 loop-again c = let b = c .before .before .before in
     let s = b .before in
     let n = range-length (s .args .bounds .now) (s .args .rolls .now) (s .pre .0) in
     reading-turn _ _ _ _ (b .loop .inv) (search needs) (omega (arith, n))
 
--- src/behind.rt:40:1
 returns : tie.Need-returns Inv-loop μ-loop
 returns c = reading-done _ _ _ _ (c .before .loop .inv) (search needs)
 

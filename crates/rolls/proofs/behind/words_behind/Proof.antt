@@ -1,10 +1,10 @@
+-- `words_behind` meets its contract, refusal by refusal (WayBack); for a product of 2^64 each value is its own word. Assumes nothing.
 use Rattle.rolls.specs.Inner.{runBehind}
 use Rattle.arithmetic.proofs.Limits.{held-below}
-use mathlib.Core.Path.{_≡_, _∙_, refl, sym, ap, ap₂}
-use native.Mathlib.Omega.{arith}
+use mathlib.Core.Path.{_∙_, refl, sym, ap, ap₂}
 use lib.ListN.{length}
 use borrow.Author.Tests.{ltb-false, not-true, not-false}
-use Rattle.arithmetic.specs.Rolls.{product, value}
+use Rattle.arithmetic.specs.Rolls.{product}
 use Rattle.rolls.specs.Outcome.{shownBehind}
 use Rattle.rolls.proofs.Deciding.{in-count, below-count, above-count}
 use Rattle.rolls.proofs.OneBatch.{rollable-below, rollable-whole, above-refused}
@@ -12,65 +12,45 @@ use Rattle.rolls.proofs.WayBack.{behind-count, behind-zero, behind-prod
 use borrow.Author.Needs.{needs}
 use Rattle.rolls.proofs.behind.words_behind.Statement.{statement}
 use Rattle.rolls.proofs.behind.words_behind.Tie as tie
-use Rattle.rolls.proofs.behind.words_behind.Reads as reads
-use Rattle.rolls.proofs.behind.words_behind.Lts as lts
-use Rattle.arithmetic.proofs.bounds.has_zero.Reads as has-zero-reads
-use Rattle.arithmetic.proofs.bounds.product_of.Reads as product-of-reads
-use Rattle.rolls.proofs.answer.refused_behind.Reads as refused-behind-reads
-use Rattle.rolls.proofs.behind.in_range.Reads as in-range-reads
-use Rattle.rolls.proofs.behind.run_below.Reads as run-below-reads
-use Rattle.rolls.proofs.behind.value_of.Reads as value-of-reads
 
--- src/behind.rt:78:9
 refused-behind-requires : tie.Need-refused-behind-requires
 refused-behind-requires c κs = search needs
 
--- src/behind.rt:78:9
 returns : tie.Need-returns
 returns c = let a = c .before .before .before .before .args in
     c .refused-behind .ensures ∙ ap shownBehind (sym (behind-count (a .bounds .now) (a .rolls .now) (below-count 1 16 (length (a .bounds .now)) (c .before .if1 .taken))))
 
--- src/behind.rt:81:9
 refused-behind-requires-2 : tie.Need-refused-behind-requires-2
 refused-behind-requires-2 c κs = search needs
 
--- src/behind.rt:81:9
 returns-2 : tie.Need-returns-2
 returns-2 c = let a = c .before .before .before .before .before .args in
     c .refused-behind2 .ensures ∙ ap shownBehind (sym (behind-count (a .bounds .now) (a .rolls .now) (above-count 1 16 (length (a .bounds .now)) (c .before .if2 .taken))))
 
--- src/behind.rt:83:8
 has-zero-requires : tie.Need-has-zero-requires
 has-zero-requires c κs = search needs
 
--- src/behind.rt:84:9
 refused-behind-requires-3 : tie.Need-refused-behind-requires-3
 refused-behind-requires-3 c κs = search needs
 
--- src/behind.rt:84:9
 returns-3 : tie.Need-returns-3
 returns-3 c = let a = c .before .before .before .before .before .before .before .args in
     c .refused-behind3 .ensures
     ∙ ap shownBehind (sym (behind-zero (a .bounds .now) (a .rolls .now) (in-count 1 16 (length (a .bounds .now)) (search needs) (search needs))
     (sym (c .before .before .has-zero .ensures) ∙ c .before .if3 .taken)))
 
--- src/behind.rt:86:11
 product-of-requires : tie.Need-product-of-requires
 product-of-requires c κs = sym (c .before .has-zero .ensures) ∙ c .if3 .left
 
--- src/behind.rt:87:24
 enum-known-b : tie.Need-enum-known-b
 enum-known-b c = search needs
 
--- src/behind.rt:88:17
 in-range-requires : tie.Need-in-range-requires
 in-range-requires c κs = search needs
 
--- src/behind.rt:89:17
 refused-behind-requires-4 : tie.Need-refused-behind-requires-4
 refused-behind-requires-4 c κs = search needs
 
--- src/behind.rt:89:17
 returns-4 : tie.Need-returns-4
 returns-4 c = let k = c .before .before .before .before in
     let p = k .before .before in
@@ -81,7 +61,6 @@ returns-4 c = let k = c .before .before .before .before in
     (sym (p .before .before .has-zero .ensures) ∙ p .before .if3 .left) (o .fits)
     (sym (c .before .before .in-range .ensures) ∙ not-true (c .before .before .in-range .result) (c .before .if4 .taken))))
 
--- src/behind.rt:91:23
 value-of-requires : tie.Need-value-of-requires
 value-of-requires c κs = let k = c .before .before .before in
     let p = k .before .before in
@@ -89,7 +68,6 @@ value-of-requires c κs = let k = c .before .before .before in
     let o = rollable-below bs _ (sym (p .product-of .ensures) ∙ k .b .given .1) _ refl in
     (sym (c .before .in-range .ensures) ∙ not-false (c .before .in-range .result) (c .if4 .left), ltb-false _ (product bs) (o .fits))
 
--- src/behind.rt:91:13
 run-below-requires : tie.Need-run-below-requires
 run-below-requires c κs = let k = c .before .before .before .before in
     let p = k .before .before in
@@ -98,19 +76,15 @@ run-below-requires c κs = let k = c .before .before .before .before in
     (value-fits (a .bounds .now) (a .rolls .now) _ (sym (p .product-of .ensures) ∙ k .b .given .1)
     (sym (c .before .before .in-range .ensures) ∙ not-false (c .before .before .in-range .result) (c .before .if4 .left)))
 
--- src/behind.rt:94:17
 enum-told : tie.Need-enum-told
 enum-told c = search needs
 
--- src/behind.rt:94:17
 in-range-requires-2 : tie.Need-in-range-requires-2
 in-range-requires-2 c κs = search needs
 
--- src/behind.rt:95:17
 refused-behind-requires-5 : tie.Need-refused-behind-requires-5
 refused-behind-requires-5 c κs = search needs
 
--- src/behind.rt:95:17
 returns-5 : tie.Need-returns-5
 returns-5 c = let k = c .before .before .before in
     let p = k .before .before in
@@ -121,7 +95,6 @@ returns-5 c = let k = c .before .before .before in
     (sym (p .before .before .has-zero .ensures) ∙ p .before .if3 .left) (o .fits)
     (sym (c .before .before .in-range2 .ensures) ∙ not-true (c .before .before .in-range2 .result) (c .before .if5 .taken))))
 
--- src/behind.rt:98:17
 value-of-requires-2 : tie.Need-value-of-requires-2
 value-of-requires-2 c κs = let k = c .before .before in
     let p = k .before .before in
@@ -129,15 +102,12 @@ value-of-requires-2 c κs = let k = c .before .before in
     let o = rollable-whole bs (sym (p .product-of .ensures) ∙ k .enum-told .given .1) in
     (sym (c .before .in-range2 .ensures) ∙ not-false (c .before .in-range2 .result) (c .if5 .left), ltb-false _ (product bs) (o .fits))
 
--- src/behind.rt:107:27
 enum-told-2 : tie.Need-enum-told-2
 enum-told-2 c = search needs
 
--- src/behind.rt:107:27
 refused-behind-requires-6 : tie.Need-refused-behind-requires-6
 refused-behind-requires-6 c κs = search needs
 
--- src/behind.rt:74:1
 returns-6 : tie.Need-returns-6
 returns-6 c = let k = c .before .before .before .before .before in
     let p = k .before .before in
@@ -150,7 +120,6 @@ returns-6 c = let k = c .before .before .before .before .before in
     (sym (p .before .before .has-zero .ensures) ∙ p .before .if3 .left) (o .fits)
     (sym (r .in-range .ensures) ∙ not-false (r .in-range .result) (c .before .before .if4 .left)))
 
--- src/behind.rt:74:1
 returns-7 : tie.Need-returns-7
 returns-7 c = let k = c .before .before .before in
     let p = k .before .before in
@@ -163,7 +132,6 @@ returns-7 c = let k = c .before .before .before in
     (sym (p .before .before .has-zero .ensures) ∙ p .before .if3 .left) (o .fits)
     (sym (r .in-range2 .ensures) ∙ not-false (r .in-range2 .result) (c .before .if5 .left)))
 
--- src/behind.rt:74:1
 returns-8 : tie.Need-returns-8
 returns-8 c = let p = c .before .before .before in
     let a = p .before .before .before .before .before .before .before .args in

@@ -1,3 +1,4 @@
+-- `cut_at` meets its contract: the invariant is `Cutting`; the batch ends with the list, at sixteen bounds, or where the product passes the limit. Assumes nothing.
 use native.Mathlib.Omega.{arith}
 use borrow.Author.Tests.{leb-true, not-true, not-false}
 use mathlib.Core.Path.{_∙_, sym}
@@ -8,9 +9,6 @@ use Rattle.rolls.proofs.Cutting.{Cutting, cut-first, cut-turn, cut-list
 use Rattle.arithmetic.proofs.Limits.{zero-nowhere}
 use Rattle.rolls.proofs.cut.cut_at.Statement.{statement}
 use Rattle.rolls.proofs.cut.cut_at.Tie as tie
-use Rattle.rolls.proofs.cut.cut_at.Reads as reads
-use Rattle.rolls.proofs.cut.cut_at.Lts as lts
-use Rattle.arithmetic.proofs.bounds.within.Reads as within-reads
 
 abbrev Inv-loop : tie.InvT-loop
 Inv-loop bounds at product₀ end₀ product end = Cutting (2 ^ 56) bounds at product end
@@ -18,67 +16,52 @@ Inv-loop bounds at product₀ end₀ product end = Cutting (2 ^ 56) bounds at pr
 abbrev μ-loop : tie.MeasureT-loop
 μ-loop bounds at product₀ end₀ product end = length bounds - end
 
--- src/cut.rt:28:23
 mul-product : tie.Need-mul-product Inv-loop μ-loop
 mul-product c = search needs
 
--- src/cut.rt:28:23
 shared-slice-read-product : tie.Need-shared-slice-read-product Inv-loop μ-loop
 shared-slice-read-product c = search needs
 
--- src/cut.rt:29:19
 add-end : tie.Need-add-end Inv-loop μ-loop
 add-end c = search needs
 
--- src/cut.rt:30:5
 loop-holds : tie.Need-loop-holds Inv-loop μ-loop
 loop-holds c = cut-first _ _ _ (search needs)
 
--- src/cut.rt:31:17
 mul-b : tie.Need-mul-b Inv-loop μ-loop
 mul-b c = search needs
 
--- src/cut.rt:31:17
 shared-slice-read-b : tie.Need-shared-slice-read-b Inv-loop μ-loop
 shared-slice-read-b c = search needs
 
--- src/cut.rt:32:12
 sub-if1 : tie.Need-sub-if1 Inv-loop μ-loop
 sub-if1 c = search needs
 
--- src/cut.rt:35:13
 within-requires : tie.Need-within-requires Inv-loop μ-loop
 within-requires c κs = let b = c .before .before .before in zero-nowhere _ _ (b .before .before .before .pre .1) (search needs)
 
--- src/cut.rt:38:19
 mul-product-2 : tie.Need-mul-product-2 Inv-loop μ-loop
 mul-product-2 c = let b = c .before .before .before .before .before in
     let f = sym (c .before .within .ensures) ∙ not-false (c .before .within .result) (c .if2 .left) in
     record { fits = omega (arith, leb-true (b .loop .product * getD (b .before .before .before .args .bounds .now) (b .loop .end) 0) (2 ^ 56) f) }
 
--- src/cut.rt:39:9
 add-end-2 : tie.Need-add-end-2 Inv-loop μ-loop
 add-end-2 c = search needs
 
--- src/cut.rt:30:5
 loop-less : tie.Need-loop-less Inv-loop μ-loop
 loop-less c = search needs
 
--- src/cut.rt:30:5
 loop-again : tie.Need-loop-again Inv-loop μ-loop
 loop-again c = let b = c .before .before .before .before .before in
     let f = sym (c .before .within .ensures) ∙ not-false (c .before .within .result) (c .if2 .left) in
     cut-turn _ _ _ _ _ (b .loop .inv) (search needs) (search needs) f
 
--- src/cut.rt:24:1
 returns : tie.Need-returns Inv-loop μ-loop
 returns c = cut-found _ _ _ _ (c .before .loop .inv) (cut-list-ends _ _ _ _ _ (c .before .loop .inv) (search needs))
 
--- src/cut.rt:24:1
 returns-2 : tie.Need-returns-2 Inv-loop μ-loop
 returns-2 c = let v = c .before .before .before .loop .inv in cut-found _ _ _ _ v (cut-full _ _ _ _ _ v (search needs) (search needs))
 
--- src/cut.rt:24:1
 returns-3 : tie.Need-returns-3 Inv-loop μ-loop
 returns-3 c = let v = c .before .before .before .before .before .loop .inv in
     let f = sym (c .before .within .ensures) ∙ not-true (c .before .within .result) (c .if2 .taken) in

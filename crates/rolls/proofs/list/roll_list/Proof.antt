@@ -1,8 +1,9 @@
+-- `roll_list` meets its contract, refusal by refusal (OneList); a dry run tells whether the words suffice before anything is written. Assumes nothing.
 use Rattle.rolls.specs.Run.{run, trace, rollsOf}
 use Rattle.rolls.specs.Cut.{cut}
-use mathlib.Core.Path.{_≡_, _∙_, refl, sym, ap}
-use mathlib.Core.List.{List, _++_}
-use Prim.Native.Nat.{ℕ, _^_, _≤_}
+use mathlib.Core.Path.{_∙_, sym, ap}
+use mathlib.Core.List.{_++_}
+use Prim.Native.Nat.{ℕ, _^_}
 use lib.ListN.{length, drop}
 use borrow.Author.Tests.{lt-ltb, le-ltb}
 use Rattle.rolls.proofs.Deciding.{in-count, above-count, supplied-enough, refused-seen, done-seen}
@@ -11,65 +12,47 @@ use Rattle.rolls.proofs.OneList.{list-count, list-zero, list-room, list
 use borrow.Author.Needs.{needs}
 use Rattle.rolls.proofs.list.roll_list.Statement.{statement}
 use Rattle.rolls.proofs.list.roll_list.Tie as tie
-use Rattle.rolls.proofs.list.roll_list.Reads as reads
-use Rattle.rolls.proofs.list.roll_list.Lts as lts
-use Rattle.arithmetic.proofs.bounds.has_zero.Reads as has-zero-reads
-use Rattle.rolls.proofs.answer.refused_answer.Reads as refused-answer-reads
-use Rattle.rolls.proofs.list.write_list.Reads as write-list-reads
-use Rattle.rolls.proofs.supply.supply_list.Reads as supply-list-reads
 
--- src/list.rt:69:9
 refused-answer-requires : tie.Need-refused-answer-requires
 refused-answer-requires c κs = search needs
 
--- src/list.rt:69:9
 returns : tie.Need-returns
 returns c = let a = c .before .before .before .before .before .args in
     refused-seen _ 2 0 _ _ _ (list-count (a .words .now) (a .start) (a .bounds .now) (length (a .rolls .now)) (above-count 0 4096 (length (a .bounds .now)) (c .before .if1 .taken))) (c .refused-answer .ensures)
 
--- src/list.rt:71:8
 has-zero-requires : tie.Need-has-zero-requires
 has-zero-requires c κs = search needs
 
--- src/list.rt:72:9
 refused-answer-requires-2 : tie.Need-refused-answer-requires-2
 refused-answer-requires-2 c κs = search needs
 
--- src/list.rt:72:9
 returns-2 : tie.Need-returns-2
 returns-2 c = let a = c .before .before .before .before .before .before .before .args in
     refused-seen _ 4 0 _ _ _ (list-zero (a .words .now) (a .start) (a .bounds .now) (length (a .rolls .now)) (in-count 0 4096 (length (a .bounds .now)) (search needs) (search needs))
     (sym (c .before .before .has-zero .ensures) ∙ c .before .if2 .taken)) (c .refused-answer2 .ensures)
 
--- src/list.rt:75:9
 refused-answer-requires-3 : tie.Need-refused-answer-requires-3
 refused-answer-requires-3 c κs = search needs
 
--- src/list.rt:75:9
 returns-3 : tie.Need-returns-3
 returns-3 c = let a = c .before .before .before .before .before .before .before .before .args in
     refused-seen _ 6 0 _ _ _ (list-room (a .words .now) (a .start) (a .bounds .now) (length (a .rolls .now)) (in-count 0 4096 (length (a .bounds .now)) (search needs) (search needs))
     (sym (c .before .before .before .has-zero .ensures) ∙ c .before .before .if2 .left) (lt-ltb _ _ (c .before .if3 .taken))) (c .refused-answer3 .ensures)
 
--- src/list.rt:78:9
 refused-answer-requires-4 : tie.Need-refused-answer-requires-4
 refused-answer-requires-4 c κs = search needs
 
--- src/list.rt:78:9
 returns-4 : tie.Need-returns-4
 returns-4 c = let a = c .before .before .before .before .before .before .before .before .before .args in
     refused-seen _ 9 0 _ _ _ (list-start (a .words .now) (a .start) (a .bounds .now) (length (a .rolls .now)) (in-count 0 4096 (length (a .bounds .now)) (search needs) (search needs))
     (sym (c .before .before .before .before .has-zero .ensures) ∙ c .before .before .before .if2 .left) (le-ltb _ _ (c .before .before .if3 .left)) (c .before .if4 .taken)) (c .refused-answer4 .ensures)
 
--- src/list.rt:80:11
 supply-list-requires : tie.Need-supply-list-requires
 supply-list-requires c κs = (c .if4 .left, sym (c .before .before .before .has-zero .ensures) ∙ c .before .before .if2 .left)
 
--- src/list.rt:81:26
 enum-known-next : tie.Need-enum-known-next
 enum-known-next c = search needs
 
--- src/list.rt:82:13
 write-list-requires : tie.Need-write-list-requires
 write-list-requires c κs = let e = c .before .before .before .before .before in
     let a = e .before .before .before .before .before .before .before .before .args in (
@@ -80,19 +63,15 @@ write-list-requires c κs = let e = c .before .before .before .before .before in
           (sym (c .before .before .before .before .supply-list .ensures) ∙ c .before .before .next .given .1) .enough,
     )
 
--- src/list.rt:90:25
 enum-known-batch : tie.Need-enum-known-batch
 enum-known-batch c = search needs
 
--- src/list.rt:90:36
 refused-answer-requires-5 : tie.Need-refused-answer-requires-5
 refused-answer-requires-5 c κs = search needs
 
--- src/list.rt:64:1
 same-length : tie.Need-same-length
 same-length c = search needs
 
--- src/list.rt:64:1
 returns-5 : tie.Need-returns-5
 returns-5 c = let n = c .before .before .before .before .before in
     let e = n .before .before .before in
@@ -105,7 +84,6 @@ returns-5 c = let n = c .before .before .before .before .before in
     (sym (e .before .before .before .has-zero .ensures) ∙ e .before .before .if2 .left) (le-ltb _ _ (e .before .if3 .left)) (e .if4 .left) _ _ s)
     (c .before .before .write-list .ensures ∙ ap (λ (k : ℕ). rollsOf 64 (cut (2 ^ 56) (a .bounds .now)) (trace r) ++ drop k (a .rolls .now)) (sym len))
 
--- src/list.rt:64:1
 returns-6 : tie.Need-returns-6
 returns-6 c = let b = c .before .before in
     let e = b .before .before .before in

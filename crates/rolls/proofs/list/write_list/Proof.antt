@@ -1,6 +1,7 @@
+-- `write_list` meets its contract: the invariant is `Filling`. That a word is missing cannot be, since the words suffice. Assumes nothing.
 use lib.ListN.{length-take, length-drop}
-use mathlib.Core.Path.{_∙_, sym, ap}
-use Prim.Native.Nat.{_-_, _≤_, _<_}
+use mathlib.Core.Path.{_∙_, sym}
+use Prim.Native.Nat.{_-_}
 use native.Mathlib.Omega.{arith}
 use borrow.Author.Needs.{needs}
 use lib.ListN.{length}
@@ -8,12 +9,6 @@ use Rattle.rolls.proofs.Listing.{cut-pos, cut-place}
 use Rattle.rolls.proofs.Filling.{Filling, fill-none, fill-never, fill-turn, fill-done}
 use Rattle.rolls.proofs.list.write_list.Statement.{statement}
 use Rattle.rolls.proofs.list.write_list.Tie as tie
-use Rattle.rolls.proofs.list.write_list.Reads as reads
-use Rattle.rolls.proofs.list.write_list.Lts as lts
-use Rattle.arithmetic.proofs.bounds.threshold_of.Reads as threshold-of-reads
-use Rattle.rolls.proofs.cut.cut_at.Reads as cut-at-reads
-use Rattle.rolls.proofs.search.find_word.Reads as find-word-reads
-use Rattle.rolls.proofs.unfold.write_rolls.Reads as write-rolls-reads
 
 abbrev Inv-loop : tie.InvT-loop
 Inv-loop words start bounds rolls₀ next₀ at₀ rolls next at = Filling words start bounds rolls₀ rolls next at
@@ -21,73 +16,58 @@ Inv-loop words start bounds rolls₀ next₀ at₀ rolls next at = Filling words
 abbrev μ-loop : tie.MeasureT-loop
 μ-loop words start bounds rolls₀ next₀ at₀ rolls next at = length bounds - at
 
--- src/list.rt:38:5
 loop-holds : tie.Need-loop-holds Inv-loop μ-loop
 loop-holds c = let s = c .before .before .before in fill-none _ _ _ _ (s .pre .0) (s .pre .3)
 
--- src/list.rt:39:13
 cut-at-requires : tie.Need-cut-at-requires Inv-loop μ-loop
 cut-at-requires c κs = search needs
 
--- src/list.rt:41:52
 threshold-of-requires : tie.Need-threshold-of-requires Inv-loop μ-loop
 threshold-of-requires c κs = let b = c .before .before in
     cut-pos _ _ (search needs) (b .before .before .before .before .pre .1) _ (c .cut-at .ensures)
 
--- src/list.rt:41:15
 find-word-requires : tie.Need-find-word-requires Inv-loop μ-loop
 find-word-requires c κs = search needs
 
--- src/list.rt:43:17
 enum-known-word : tie.Need-enum-known-word Inv-loop μ-loop
 enum-known-word c = search needs
 
--- src/list.rt:47:35
 mul-write-rolls : tie.Need-mul-write-rolls Inv-loop μ-loop
 mul-write-rolls c = search needs
 
--- src/list.rt:47:35
 sub-write-rolls : tie.Need-sub-write-rolls Inv-loop μ-loop
 sub-write-rolls c = let k = c .before .before .before .before .before in
     let b = k .before .before in
     omega (arith, cut-place _ (b .loop .at) (search needs) (b .before .before .before .before .pre .1) (k .cut-at .result) (k .cut-at .ensures))
 
--- src/list.rt:47:35
 part-write-rolls-start : tie.Need-part-write-rolls-start Inv-loop μ-loop
 part-write-rolls-start c = let k = c .before .before .before .before .before in
     let b = k .before .before in
     omega (arith, cut-place _ (b .loop .at) (search needs) (b .before .before .before .before .pre .1) (k .cut-at .result) (k .cut-at .ensures))
 
--- src/list.rt:47:35
 part-write-rolls-end : tie.Need-part-write-rolls-end Inv-loop μ-loop
 part-write-rolls-end c = let k = c .before .before .before .before .before in
     let b = k .before .before in
     omega (arith, cut-place _ (b .loop .at) (search needs) (b .before .before .before .before .pre .1) (k .cut-at .result) (k .cut-at .ensures))
 
--- src/list.rt:47:53
 mul-write-rolls-2 : tie.Need-mul-write-rolls-2 Inv-loop μ-loop
 mul-write-rolls-2 c = search needs
 
--- src/list.rt:47:53
 sub-write-rolls-2 : tie.Need-sub-write-rolls-2 Inv-loop μ-loop
 sub-write-rolls-2 c = search needs
 
--- src/list.rt:47:53
 part-write-rolls-start-2 : tie.Need-part-write-rolls-start-2 Inv-loop μ-loop
 part-write-rolls-start-2 c = search needs
 
--- src/list.rt:47:53
 part-write-rolls-end-2 : tie.Need-part-write-rolls-end-2 Inv-loop μ-loop
 part-write-rolls-end-2 c = search needs
 
--- src/list.rt:47:17
 write-rolls-requires : tie.Need-write-rolls-requires Inv-loop μ-loop
 write-rolls-requires c κs = let k = c .before .before .before .before .before .before .before in
     let b = k .before .before in
     let s = b .before .before .before .before in
     simp (length-take, length-drop) (omega (arith, cut-place _ (b .loop .at) (search needs) (s .pre .1) (k .cut-at .result) (k .cut-at .ensures), s .pre .2))
 
--- src/list.rt:38:5
 loop-again : tie.Need-loop-again Inv-loop μ-loop
 loop-again c = let k = c .before .before .before .before .before .before .before .before .before .before in
     let b = k .before .before in
@@ -97,36 +77,29 @@ loop-again c = let k = c .before .before .before .before .before .before .before
     _ (c .before .before .before .before .before .before .before .before .before .threshold-of .ensures)
     _ _ _ (sym (w .before .before .find-word .ensures) ∙ w .word .given .1) (s .pre .2) _ (c .before .before .write-rolls .ensures)
 
--- src/list.rt:48:24
 add-next : tie.Need-add-next Inv-loop μ-loop
 add-next c = let v = loop-again c in omega (arith, v .0)
 
--- src/list.rt:38:5
 loop-less : tie.Need-loop-less Inv-loop μ-loop
 loop-less c = let k = c .before .before .before .before .before .before .before .before .before .before in
     let b = k .before .before in
     omega (arith, cut-place _ (b .loop .at) (search needs) (b .before .before .before .before .pre .1) (k .cut-at .result) (k .cut-at .ensures))
 
--- src/list.rt:52:17
 enum-told : tie.Need-enum-told Inv-loop μ-loop
 enum-told c = search needs
 
--- src/list.rt:52:17
 same-length : tie.Need-same-length Inv-loop μ-loop
 same-length c = search needs
 
--- src/list.rt:52:17
 returns : tie.Need-returns Inv-loop μ-loop
 returns c = let k = c .before .before .before .before in
     let b = k .before .before in
     absurd (fill-never _ _ _ _ _ _ _ (b .loop .inv) (search needs) (b .before .before .before .before .pre .1) (k .cut-at .result) (k .cut-at .ensures) (search needs)
     _ (c .before .before .before .threshold-of .ensures) (sym (c .before .before .find-word .ensures) ∙ c .enum-told .given .1))
 
--- src/list.rt:32:1
 same-length-2 : tie.Need-same-length-2 Inv-loop μ-loop
 same-length-2 c = search needs
 
--- src/list.rt:32:1
 returns-2 : tie.Need-returns-2 Inv-loop μ-loop
 returns-2 c = fill-done _ _ _ _ _ _ _ (c .before .loop .inv) (search needs)
 

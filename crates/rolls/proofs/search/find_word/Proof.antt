@@ -1,18 +1,15 @@
+-- `find_word` meets its contract. The loop: the search of what is left finds what the whole search finds, and the words passed are rejected. Assumes nothing.
 use borrow.Author.Tests.{le-leb, lt-leb}
-use Rattle.rolls.specs.declared.search.Search.{Search}
 use Rattle.rolls.specs.declared.search.Search.the-variants.{Hit}
 use mathlib.Core.Path.{_≡_, _∙_, sym, ap}
-use Prim.Native.Nat.{ℕ, _+_, _-_, _≤_, _<_}
+use Prim.Native.Nat.{ℕ, _-_, _≤_, _<_}
 use borrow.Author.Needs.{needs}
 use lib.ListN.{length, drop, getD}
-use Rattle.rolls.specs.Run.{Found, find}
+use Rattle.rolls.specs.Run.{find}
 use Rattle.rolls.specs.Inner.{passes, searched}
 use Rattle.rolls.proofs.Finding.{find-end, find-hit, find-miss}
 use Rattle.rolls.proofs.search.find_word.Statement.{statement}
 use Rattle.rolls.proofs.search.find_word.Tie as tie
-use Rattle.rolls.proofs.search.find_word.Reads as reads
-use Rattle.rolls.proofs.search.find_word.Lts as lts
-use Rattle.arithmetic.proofs.wide.low.Reads as low-reads
 
 abbrev Inv-loop : tie.InvT-loop
 Inv-loop words start b t at₀ rejected₀ at rejected = (start ≤ at) × (at ≤ length words) × (rejected ≡ at - start)
@@ -21,35 +18,27 @@ Inv-loop words start b t at₀ rejected₀ at rejected = (start ≤ at) × (at �
 abbrev μ-loop : tie.MeasureT-loop
 μ-loop words start b t at₀ rejected₀ at rejected = length words - at
 
--- src/search.rt:27:9
 loop-holds : tie.Need-loop-holds Inv-loop μ-loop
 loop-holds c = search needs
 
--- src/search.rt:31:20
 mul-word : tie.Need-mul-word Inv-loop μ-loop
 mul-word c = search needs
 
--- src/search.rt:31:20
 shared-slice-read-word : tie.Need-shared-slice-read-word Inv-loop μ-loop
 shared-slice-read-word c = search needs
 
--- src/search.rt:32:17
 low-requires : tie.Need-low-requires Inv-loop μ-loop
 low-requires c κs = search needs
 
--- src/search.rt:39:9
 add-at : tie.Need-add-at Inv-loop μ-loop
 add-at c = search needs
 
--- src/search.rt:40:9
 add-rejected : tie.Need-add-rejected Inv-loop μ-loop
 add-rejected c = search needs
 
--- src/search.rt:27:9
 loop-less : tie.Need-loop-less Inv-loop μ-loop
 loop-less c = search needs
 
--- src/search.rt:27:9
 loop-again : tie.Need-loop-again Inv-loop μ-loop
 loop-again c = let b = c .before .before .before .before in
     let ws = b .before .before .args .words .now in
@@ -61,14 +50,12 @@ loop-again c = let b = c .before .before .before .before in
       sym (find-miss (passes (b .before .before .args .b) (b .before .before .args .t)) ws (b .loop .at) i (lt-leb _ _ (rw (low .ensures) at (c .if2 .left)))) ∙ b .loop .inv .3,
     )
 
--- src/search.rt:21:1
 returns : tie.Need-returns Inv-loop μ-loop
 returns c = let b = c .before in
     let a = b .before .before .args in
     let i : length (a .words .now) ≤ b .loop .at = search needs in
     sym (ap (searched (a .start)) (sym (b .loop .inv .3) ∙ find-end (passes (a .b) (a .t)) (a .words .now) (b .loop .at) i))
 
--- src/search.rt:21:1
 returns-2 : tie.Need-returns-2 Inv-loop μ-loop
 returns-2 c = let b = c .before .before .before .before in
     let a = b .before .before .args in

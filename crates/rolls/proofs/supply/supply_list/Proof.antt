@@ -1,3 +1,4 @@
+-- `supply_list` meets its contract: the invariant is `Supplying`, one batch a turn; the measure is the bounds that are left. Assumes nothing.
 use mathlib.Core.Path.{_∙_, sym}
 use Prim.Native.Nat.{_-_}
 use native.Mathlib.Omega.{arith}
@@ -7,11 +8,6 @@ use Rattle.rolls.proofs.Listing.{cut-pos, cut-place}
 use Rattle.rolls.proofs.Supplying.{Supplying, supply-none, supply-hit, supply-short, supply-done}
 use Rattle.rolls.proofs.supply.supply_list.Statement.{statement}
 use Rattle.rolls.proofs.supply.supply_list.Tie as tie
-use Rattle.rolls.proofs.supply.supply_list.Reads as reads
-use Rattle.rolls.proofs.supply.supply_list.Lts as lts
-use Rattle.arithmetic.proofs.bounds.threshold_of.Reads as threshold-of-reads
-use Rattle.rolls.proofs.cut.cut_at.Reads as cut-at-reads
-use Rattle.rolls.proofs.search.find_word.Reads as find-word-reads
 
 abbrev Inv-loop : tie.InvT-loop
 Inv-loop words start bounds next₀ rejected₀ batch₀ at₀ next rejected batch at = Supplying words start bounds next rejected batch at
@@ -19,64 +15,51 @@ Inv-loop words start bounds next₀ rejected₀ batch₀ at₀ next rejected bat
 abbrev μ-loop : tie.MeasureT-loop
 μ-loop words start bounds next₀ rejected₀ batch₀ at₀ next rejected batch at = length bounds - at
 
--- src/supply.rt:31:5
 loop-holds : tie.Need-loop-holds Inv-loop μ-loop
 loop-holds c = supply-none _ _ _ (c .before .before .pre .0)
 
--- src/supply.rt:32:13
 cut-at-requires : tie.Need-cut-at-requires Inv-loop μ-loop
 cut-at-requires c κs = search needs
 
--- src/supply.rt:33:52
 threshold-of-requires : tie.Need-threshold-of-requires Inv-loop μ-loop
 threshold-of-requires c κs = let b = c .before .before in
     cut-pos _ _ (search needs) (b .before .before .before .pre .1) _ (c .cut-at .ensures)
 
--- src/supply.rt:33:15
 find-word-requires : tie.Need-find-word-requires Inv-loop μ-loop
 find-word-requires c κs = search needs
 
--- src/supply.rt:36:17
 enum-known-place : tie.Need-enum-known-place Inv-loop μ-loop
 enum-known-place c = search needs
 
--- src/supply.rt:31:5
 loop-again : tie.Need-loop-again Inv-loop μ-loop
 loop-again c = let k = c .before .before .before .before .before in
     let b = k .before .before in
     supply-hit _ _ _ _ _ _ _ (b .loop .inv) (search needs) (b .before .before .before .pre .1) (k .cut-at .result) (k .cut-at .ensures) (search needs)
     _ (c .before .before .before .before .threshold-of .ensures) _ _ _ (sym (c .before .before .before .find-word .ensures) ∙ c .before .place .given .1)
 
--- src/supply.rt:39:24
 add-next : tie.Need-add-next Inv-loop μ-loop
 add-next c = let v = loop-again c in omega (arith, v .0)
 
--- src/supply.rt:40:17
 add-rejected : tie.Need-add-rejected Inv-loop μ-loop
 add-rejected c = let v = loop-again c in omega (arith, v .0, v .2)
 
--- src/supply.rt:41:17
 add-batch : tie.Need-add-batch Inv-loop μ-loop
 add-batch c = search needs
 
--- src/supply.rt:31:5
 loop-less : tie.Need-loop-less Inv-loop μ-loop
 loop-less c = let k = c .before .before .before .before .before in
     let b = k .before .before in
     omega (arith, cut-place _ (b .loop .at) (search needs) (b .before .before .before .pre .1) (k .cut-at .result) (k .cut-at .ensures))
 
--- src/supply.rt:45:17
 enum-told : tie.Need-enum-told Inv-loop μ-loop
 enum-told c = search needs
 
--- src/supply.rt:45:17
 returns : tie.Need-returns Inv-loop μ-loop
 returns c = let k = c .before .before .before .before in
     let b = k .before .before in
     supply-short _ _ _ _ _ _ _ (b .loop .inv) (search needs) (b .before .before .before .pre .1) (k .cut-at .result) (k .cut-at .ensures) (search needs)
     _ (c .before .before .before .threshold-of .ensures) (sym (c .before .before .find-word .ensures) ∙ c .enum-told .given .1)
 
--- src/supply.rt:23:1
 returns-2 : tie.Need-returns-2 Inv-loop μ-loop
 returns-2 c = supply-done _ _ _ _ _ _ _ (c .before .loop .inv) (search needs)
 

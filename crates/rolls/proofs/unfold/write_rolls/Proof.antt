@@ -1,13 +1,10 @@
-use Prim.Native.Nat.{_-_, _≤_, _<_}
+-- `write_rolls` meets its contract: the invariant is `Unfolding` of Writing, the measure the bounds that are left. Assumes nothing.
+use Prim.Native.Nat.{_-_}
 use borrow.Author.Needs.{needs}
 use lib.ListN.{length}
 use Rattle.rolls.proofs.Writing.{Unfolding, unfold-turn, unfold-done}
 use Rattle.rolls.proofs.unfold.write_rolls.Statement.{statement}
 use Rattle.rolls.proofs.unfold.write_rolls.Tie as tie
-use Rattle.rolls.proofs.unfold.write_rolls.Reads as reads
-use Rattle.rolls.proofs.unfold.write_rolls.Lts as lts
-use Rattle.arithmetic.proofs.wide.high.Reads as high-reads
-use Rattle.arithmetic.proofs.wide.low.Reads as low-reads
 
 abbrev Inv-loop : tie.InvT-loop
 Inv-loop word bounds out₀ r₀ i₀ out r i = Unfolding 64 out₀ bounds word out r i
@@ -15,53 +12,41 @@ Inv-loop word bounds out₀ r₀ i₀ out r i = Unfolding 64 out₀ bounds word 
 abbrev μ-loop : tie.MeasureT-loop
 μ-loop word bounds out₀ r₀ i₀ out r i = length bounds - i
 
--- src/unfold.rt:18:5
 loop-holds : tie.Need-loop-holds Inv-loop μ-loop
 loop-holds c = search needs
 
--- src/unfold.rt:19:17
 mul-b : tie.Need-mul-b Inv-loop μ-loop
 mul-b c = search needs
 
--- src/unfold.rt:19:17
 shared-slice-read-b : tie.Need-shared-slice-read-b Inv-loop μ-loop
 shared-slice-read-b c = search needs
 
--- src/unfold.rt:20:18
 high-requires : tie.Need-high-requires Inv-loop μ-loop
 high-requires c κs = search needs
 
--- src/unfold.rt:20:9
 mul-out : tie.Need-mul-out Inv-loop μ-loop
 mul-out c = search needs
 
--- src/unfold.rt:20:9
 slice-write-out : tie.Need-slice-write-out Inv-loop μ-loop
 slice-write-out c = search needs
 
--- src/unfold.rt:21:9
 low-requires : tie.Need-low-requires Inv-loop μ-loop
 low-requires c κs = search needs
 
--- src/unfold.rt:22:9
 add-i : tie.Need-add-i Inv-loop μ-loop
 add-i c = search needs
 
--- src/unfold.rt:18:5
 loop-less : tie.Need-loop-less Inv-loop μ-loop
 loop-less c = search needs
 
--- src/unfold.rt:18:5
 loop-again : tie.Need-loop-again Inv-loop μ-loop
 loop-again c = let b = c .before .before .before .before in
     let s = b .before .before .before in
     unfold-turn _ _ _ _ _ _ _ (b .loop .inv) _ _ (search needs) (s .pre) (c .before .high .ensures) (c .low .ensures)
 
--- src/unfold.rt:12:1
 same-length : tie.Need-same-length Inv-loop μ-loop
 same-length c = search needs
 
--- src/unfold.rt:12:1
 returns : tie.Need-returns Inv-loop μ-loop
 returns c = unfold-done _ _ _ _ _ _ _ (c .before .loop .inv) (search needs)
 
