@@ -4,3 +4,4 @@
 // the laws are stated with). The laws are in proofs/.
 pub mod sample;
 pub mod shuffle;
+pub mod supply;

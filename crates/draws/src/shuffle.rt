@@ -1,4 +1,7 @@
-// The shuffle: Fisher-Yates with batched rolls. First it is known that the words suffice for every batch, then records are exchanged.
+// The shuffle: Fisher-Yates with batched rolls.
+use super::supply::batch_size;
+use super::supply::product_down;
+use super::supply::supply_shuffle;
 use arithmetic::bounds::threshold_of;
 use arithmetic::wide::high;
 use arithmetic::wide::low;
@@ -10,82 +13,18 @@ use rolls::search::find_word;
 use rolls::supply::Supply;
 ghost use mathlib.Core.Path.{_≡_};
 ghost use mathlib.Core.Bool.{true};
-ghost use Prim.Native.Nat.{_≤_, _<_, _^_};
+ghost use Prim.Native.Nat.{_≤_, _<_};
 ghost use lib.ListN.{length};
-ghost use Rattle.arithmetic.specs.Rolls.{rolls, product};
+ghost use Rattle.arithmetic.specs.Rolls.{rolls};
 ghost use Rattle.arithmetic.specs.Width.{size64, w64};
 ghost use Rattle.rolls.specs.Run.{run, trace, rollsOf};
 ghost use Rattle.rolls.specs.Outcome.{shown, left};
-ghost use Rattle.rolls.specs.Inner.{supplied, suffices};
+ghost use Rattle.rolls.specs.Inner.{suffices};
 ghost use Rattle.draws.specs.Shuffle.{exchange, shuffleWith, countdown, shufflePlan};
 ghost use Rattle.draws.specs.Operations.{shuffle};
 
 // The most records of a draw.
 pub const MAX_RECORDS: usize = 16384;
-
-// The size of the next batch with m records still to place.
-pub fn batch_size(m: usize) -> usize
-    requires { ⌜ 0 < m ⌝ }
-    ensures { λ r. ⌜ r ≡ size64 m ⌝ }
-{
-    if m <= 6 {
-        return m - 1;
-    }
-    if m <= 512 {
-        return 6;
-    }
-    if m <= 2048 {
-        return 5;
-    }
-    4
-}
-
-// The product of the bounds m, m - 1, .., s of them.
-pub fn product_down(m: usize, s: usize) -> u64
-    requires { ⌜ (s ≤ m) × (product (countdown s m) < 2 ^ 64) ⌝ }
-    ensures { λ r. ⌜ r ≡ product (countdown s m) ⌝ }
-{
-    let mut p: u64 = 1;
-    let mut bound = m;
-    let mut left = s;
-    while 0 < left {
-        p = p * bound as u64;
-        bound -= 1;
-        left -= 1;
-    }
-    p
-}
-
-// Takes a word for each batch of a shuffle of n records, and keeps only where the last one stood and how many were rejected.
-pub fn supply_shuffle(words: &[u64], start: usize, n: usize) -> Supply
-    requires { ⌜ (start ≤ length (now words)) × (n ≤ 16384) ⌝ }
-    ensures { λ r. ⌜ r ≡ supplied start (run 64 (shufflePlan size64 n) (now (words .entry)) start) ⌝ }
-{
-    let mut next = start;
-    let mut rejected: usize = 0;
-    let mut batch: usize = 0;
-    let mut m = n;
-    while 1 < m {
-        let s = batch_size(m);
-        let b = product_down(m, s);
-        match find_word(words, next, b, threshold_of(b)) {
-            Search::Hit {
-                word: _,
-                place,
-                rejected: more,
-            } => {
-                next = place + 1;
-                rejected += more;
-                batch += 1;
-                m -= s;
-            }
-            Search::Missing => {
-                return Supply::Short { batch };
-            }
-        }
-    }
-    Supply::Enough { next, rejected }
-}
 
 // Exchanges the records at places i and j.
 pub fn exchange_records(records: &mut [u32], i: usize, j: usize)

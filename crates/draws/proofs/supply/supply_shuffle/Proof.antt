@@ -4,8 +4,8 @@ use Prim.Native.Nat.{_≤_}
 use native.Mathlib.Omega.{arith}
 use borrow.Author.Needs.{needs}
 use Rattle.draws.proofs.Shuffling.{Supplying, supply-none, supply-hit, supply-short, supply-done, batch-less, batch-fits}
-use Rattle.draws.proofs.shuffle.supply_shuffle.Statement.{statement}
-use Rattle.draws.proofs.shuffle.supply_shuffle.Tie as tie
+use Rattle.draws.proofs.supply.supply_shuffle.Statement.{statement}
+use Rattle.draws.proofs.supply.supply_shuffle.Tie as tie
 
 abbrev Inv-loop : tie.InvT-loop
 Inv-loop words start n next₀ rejected₀ batch₀ m₀ next rejected batch m = Supplying words start n next rejected batch m

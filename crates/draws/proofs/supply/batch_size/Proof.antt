@@ -2,8 +2,8 @@
 use borrow.Author.Tests.{le-leb, lt-leb}
 use Rattle.arithmetic.specs.Width.{size64}
 use borrow.Author.Needs.{needs}
-use Rattle.draws.proofs.shuffle.batch_size.Statement.{statement}
-use Rattle.draws.proofs.shuffle.batch_size.Tie as tie
+use Rattle.draws.proofs.supply.batch_size.Statement.{statement}
+use Rattle.draws.proofs.supply.batch_size.Tie as tie
 
 sub-result : tie.Need-sub-result
 sub-result c = search needs

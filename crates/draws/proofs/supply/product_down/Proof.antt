@@ -1,8 +1,8 @@
 -- `product_down` meets its contract: the invariant is `Growing`; no product on the way passes the whole. Assumes nothing.
 use borrow.Author.Needs.{needs}
 use Rattle.draws.proofs.Placing.{Growing, grow-none, grow-turn, grow-fits, grow-done}
-use Rattle.draws.proofs.shuffle.product_down.Statement.{statement}
-use Rattle.draws.proofs.shuffle.product_down.Tie as tie
+use Rattle.draws.proofs.supply.product_down.Statement.{statement}
+use Rattle.draws.proofs.supply.product_down.Tie as tie
 
 abbrev Inv-loop : tie.InvT-loop
 Inv-loop m s p₀ bound₀ left₀ p bound left = Growing m s p bound left
