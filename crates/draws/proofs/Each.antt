@@ -2,6 +2,7 @@
 -- often 0, .., n - 1 stand in the list, added up, is how many of its numbers are below n. Assumes nothing.
 --
 --   order-iff          each once, exactly when all below and no two alike
+--   order-among        such a list has each of 0 .. n - 1 among its numbers
 --   order-reorders     such a list is an order of 0, 1, .., n - 1
 --   countup-distinct   which are different
 --   rolls-behind       so its rolls, looked up, and no others in range shuffle 0, 1, .., n - 1 into it
@@ -177,6 +178,9 @@ order-iff ys = (to, λ (b, d). full-each ys (distinct-once ys d) (length ys) (om
         go x (yes h) k = omega (arith, each-count (length ys) ys t x h)
         go x (no h) (yes k) = let a = count-among x ys k in absurd (h (rw (a .2) at (below (a .0) (a .1))))
         go x (no h) (no k) = omega arith
+
+pub order-among : (ys : List ℕ) → T (isOrder ys) → (x : ℕ) → x < length ys → Among x ys
+order-among ys t x h = count-among x ys (omega (arith, each-count (length ys) ys t x h))
 
 pub countup-distinct : (n : ℕ) → Distinct (countup n 0)
 countup-distinct n i j hi hj e =

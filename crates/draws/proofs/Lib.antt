@@ -1,9 +1,12 @@
-pub mod Plans
-pub mod Orders
 pub mod Each
+pub mod Inverse
+pub mod Marking
+pub mod OneOrder
 pub mod OneSample
 pub mod OneShuffle
+pub mod Orders
 pub mod Placing
+pub mod Plans
 pub mod Reach
 pub mod Sampling
 pub mod Shuffling

@@ -5,8 +5,9 @@
 --   place-of                        the place of a record that stands at one place
 --   range-cons                      one roll in range of a shuffle's bounds
 --   length-shuffle                  a shuffle keeps the number of records
---   rolls-into-step                 one roll behind an order
+--   rolls-into-step, rolls-into-none, rolls-into-length    one roll behind an order; none for 0 or 1 record; how many
 --   shuffle-reorders                each series of rolls in range gives an order of the records
+--   Midway, midway-start, midway-roll, midway-step    shuffled into an order from the end down to a place
 --   one-series                      for each order the rolls looked up, and no others in range, give it
 use mathlib.Core.Path.{_≡_, refl, sym, ap, ap₂, _∙_, subst}
 use mathlib.Core.Logic.{_↔_, _≢_}
@@ -150,11 +151,19 @@ shuffle-reorders m (r ∷ rs) xs h i d =
 -- ---- each order comes from one series
 
 -- shuffled from the end down to place m: the places from m on are as ys has them
-record Midway (m : ℕ) (xs ys : List ℕ) : Type 0 where
-  fits : m ≤ length xs
-  distinct : Distinct xs
-  reorders : Reorders xs ys
-  settled : (k : ℕ) → m ≤ k → k < length xs → getD xs k 0 ≡ getD ys k 0
+pub record Midway (m : ℕ) (xs ys : List ℕ) : Type 0 where
+  pub fits : m ≤ length xs
+  pub distinct : Distinct xs
+  pub reorders : Reorders xs ys
+  pub settled : (k : ℕ) → m ≤ k → k < length xs → getD xs k 0 ≡ getD ys k 0
+
+pub midway-start : (xs ys : List ℕ) → Distinct xs → Reorders xs ys → Midway (length xs) xs ys
+midway-start xs ys d r = record {
+  fits = le-refl (length xs);
+  distinct = d;
+  reorders = r;
+  settled = λ k h l. absurd (let z : ⊥ = omega arith in z);
+}
 
 module _ {m : ℕ} {xs ys : List ℕ} (w : Midway m xs ys) where
   -- a place of xs is one of ys
@@ -170,6 +179,12 @@ module _ {m : ℕ} {xs ys : List ℕ} (w : Midway m xs ys) where
       go (no n) =
           let same : p ≡ j = w .reorders .distinct p j (of-ys hp) (of-ys (omega (arith, w .fits))) (sym (w .settled p (omega arith) hp) ∙ e) in
           omega arith
+
+  -- the record that place m - 1 is to get stands at a place below m
+  pub midway-roll : 1 < m → (placeOf (getD ys (m - 1) 0) xs < m) × (getD xs (placeOf (getD ys (m - 1) 0) xs) 0 ≡ getD ys (m - 1) 0)
+  midway-roll l =
+      let a = place-at (getD ys (m - 1) 0) xs (w .reorders .among (m - 1) (of-ys (omega (arith, w .fits)))) in
+      (place-below (m - 1) (omega arith) _ (a .0) (a .1), a .1)
 
   -- with one record or none still to place, it stands where ys has it
   all-placed : m ≤ 1 → xs ≡ ys
@@ -194,7 +209,7 @@ module _ {m : ℕ} {xs ys : List ℕ} (w : Midway m xs ys) where
     hm : m - 1 < length xs
     hm = omega (arith, w .fits)
 
-    midway-step : Midway (m - 1) (exchange xs r (m - 1)) ys
+    pub midway-step : Midway (m - 1) (exchange xs r (m - 1)) ys
     midway-step = record {
       fits = rw length-exchange (omega (arith, w .fits));
       distinct = exchange-distinct xs r (m - 1) hr hm (w .distinct);
@@ -244,6 +259,19 @@ rolls-into-step zero xs ys h = absurd (not-suc-le-zero h)
 rolls-into-step (suc zero) xs ys h = absurd (let z : ⊥ = omega arith in z)
 rolls-into-step (suc (suc m)) xs ys h = let e : suc (suc m) - 1 ≡ suc m = omega arith in rw e
 
+pub rolls-into-none : (m : ℕ) (xs ys : List ℕ) → m ≤ 1 → rollsInto m xs ys ≡ []
+unfolding rollsInto
+rolls-into-none zero xs ys h = refl
+rolls-into-none (suc zero) xs ys h = refl
+rolls-into-none (suc (suc m)) xs ys h = absurd (let z : ⊥ = omega arith in z)
+
+pub rolls-into-length : (m : ℕ) (xs ys : List ℕ) → length (rollsInto m xs ys) ≡ m - 1
+unfolding rollsInto
+rolls-into-length zero xs ys = omega arith
+rolls-into-length (suc zero) xs ys = omega arith
+rolls-into-length (suc (suc m)) xs ys =
+    ap suc (rolls-into-length (suc m) (exchange xs (placeOf (getD ys (suc m) 0) xs) (suc m)) ys) ∙ omega arith
+
 only : (m : ℕ) (xs ys : List ℕ) → Midway m xs ys → Only m xs ys (rollsInto m xs ys)
 only zero xs ys w = unfold rollsInto in only-none w (omega arith)
 only (suc zero) xs ys w = unfold rollsInto in only-none w (omega arith)
@@ -252,16 +280,9 @@ only (suc (suc m)) xs ys w =
     let l : 1 < n = omega arith in
     let e : n - 1 ≡ suc m = omega arith in
     let r : ℕ = placeOf (getD ys (n - 1) 0) xs in
-    let a = place-at (getD ys (n - 1) 0) xs (w .reorders .among (n - 1) (of-ys w (omega (arith, w .fits)))) in
-    let h : r < n = place-below w (n - 1) (omega arith) r (a .0) (a .1) in
+    let a = midway-roll w l in
     let less : (zs : List ℕ) → Midway (n - 1) zs ys → Only (n - 1) zs ys (rollsInto (n - 1) zs ys) = rw e (λ zs v. only (suc m) zs ys v) in
-    rw (rolls-into-step n xs ys l) (only-step w r l h (a .1) _ (less (exchange xs r (n - 1)) (midway-step w r l h (a .1))))
+    rw (rolls-into-step n xs ys l) (only-step w r l (a .0) (a .1) _ (less (exchange xs r (n - 1)) (midway-step w r l (a .0) (a .1))))
 
 pub one-series : (xs ys : List ℕ) → Distinct xs → Reorders xs ys → Only (length xs) xs ys (rollsInto (length xs) xs ys)
-one-series xs ys d r =
-    only (length xs) xs ys (record {
-      fits = le-refl (length xs);
-      distinct = d;
-      reorders = r;
-      settled = λ k h l. absurd (let z : ⊥ = omega arith in z);
-    })
+one-series xs ys d r = only (length xs) xs ys (midway-start xs ys d r)

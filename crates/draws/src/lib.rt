@@ -2,6 +2,7 @@
 //
 // Definitions are in specs/: Shuffle, Sample, Order, Operations (refusals, plan and reading of each operation), Plan and Runs (what
 // the laws are stated with). The laws are in proofs/.
+pub mod order;
 pub mod sample;
 pub mod shuffle;
 pub mod supply;

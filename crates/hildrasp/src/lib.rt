@@ -58,3 +58,11 @@ pub extern "C" fn hildrasp_sample(
 {
     draws::sample::sample_records(words, start, records, k, slots)
 }
+
+#[no_mangle]
+pub extern "C" fn hildrasp_rolls_behind(order: &[u32], rolls: &mut [u64]) -> Answer
+    ensures answer { λ r. ⌜ r ≡ shown 0 (rollsBehind (now (order .entry)) (length (now (rolls .entry)))) ⌝ }
+    ensures rolls { λ r. ⌜ now (rolls .exit) ≡ left (now (rolls .entry)) (rollsBehind (now (order .entry)) (length (now (rolls .entry)))) ⌝ }
+{
+    draws::order::rolls_behind(order, rolls)
+}
