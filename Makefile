@@ -1,5 +1,20 @@
-# make test    the gate: everything proved, every test passed
-.PHONY: test
+# make draw      builds the program and runs it on the example sheet
+# make test      the gate: everything proved, every test passed
+# make bench     times of the library beside Rust written for this, as ratios, on x86-64
+# make picture   draws docs/four_bits.svg anew
+.PHONY: draw test bench picture
+
+draw:
+	rt check draw_sheet
+	. .ci/target.sh && $$CARGO_TARGET_X86_64_UNKNOWN_LINUX_GNU_RUNNER target/bin/draw_sheet < crates/draw_sheet/stdin
 
 test:
 	bash .ci/run
+
+bench:
+	rt staticlib hildrasp
+	cd rust && cargo run --release --offline --bin bench
+
+picture:
+	rt staticlib hildrasp
+	. .ci/target.sh && cd rust && cargo run --quiet --release --offline --bin picture > ../docs/four_bits.svg
