@@ -1,0 +1,10 @@
+pub mod Refusing
+pub mod Naming
+pub mod Lemire
+pub mod Demand1
+pub mod Demand2
+pub mod Demand3
+pub mod Agreement
+pub mod FirstBatch
+pub mod StandIns
+pub mod Examples

@@ -1,0 +1,230 @@
+-- The runs of words behind an order, as two operations name them. An order of different records is an order of their places: a shuffle
+-- moves records as it moves their places, so the rolls behind the places are the rolls behind the records. Assumes nothing.
+--
+--   plan-fits                 the batches of a shuffle can be rolled
+--   Reads, reads-shuffle      a list of records read by their places, and that a shuffle keeps it so
+--   places-length, places-at   the places of records, one by one
+--   places-order              the places of an order of different records are an order of 0 .. n - 1
+--   rolls-same                with the same rolls behind it
+--   order-done, rolls-named   which are those that the operation gives
+--   run-named, run-full       the run of a batch, as the operation gives it, and its length
+--   range-split               rolls in range, batch by batch
+--   runs-full, runs-in        the runs of a plan, as the operation gives them
+use mathlib.Core.Path.{_≡_, refl, sym, ap, _∙_, subst}
+use mathlib.Core.Logic.{_↔_}
+use mathlib.Core.Bool.{Bool, true, false, not, _||_}
+use mathlib.Core.List.{List, [], _∷_, _++_, append-nil}
+use Prim.Native.Nat.{ℕ, zero, suc, _+_, _-_, _^_, _<_, _≤_, zero-le}
+use native.Mathlib.Nat.{le-of-suc-le-suc, not-suc-le-zero}
+use native.Mathlib.Decide.{ℕ-discrete}
+use native.Mathlib.Omega.{arith}
+use lib.Dec.{T, eqb, lit≤}
+use lib.ListN.{length, take, drop, getD, replicate, length-replicate, drop-of-length-le}
+use lib.Seq.{ext-getD}
+use borrow.Author.Tests.{le-ltb, ne-eqb}
+use Rattle.arithmetic.specs.Rolls.{product, inRange, firstWord, lastWord}
+use Rattle.arithmetic.specs.Products.{hasZero}
+use Rattle.arithmetic.specs.Width.{size64}
+use Rattle.arithmetic.proofs.Rolls.{in-range-cons, product-pos-head, product-pos-tail}
+use Rattle.arithmetic.proofs.Words.{first-last, last-fits, run-length}
+use Rattle.rolls.specs.Outcome.{done, left}
+use Rattle.rolls.proofs.Deciding.{decide-past, decide-none, in-count}
+use Rattle.rolls.proofs.Radix.{range-length}
+use Rattle.rolls.proofs.WayBack.{behind-found}
+use Rattle.draws.specs.Shuffle.{exchange, shuffleWith, shuffleBounds, shufflePlan}
+use Rattle.draws.specs.Sample.{countup}
+use Rattle.draws.specs.Order.{isOrder, placeOf, rollsInto, Distinct, Reorders, Only}
+use Rattle.draws.specs.Plan.{joined, Rollable, RollablePlan, PlanOf}
+use Rattle.draws.specs.Runs.{InRuns}
+use Rattle.draws.specs.Operations.{rollsBehind}
+use Rattle.draws.proofs.Plans.{countup-length, countup-at, shuffle-bounds-length, sizes-more, sizes64, shuffle-plan}
+use Rattle.draws.proofs.Orders.{length-exchange, exchange-first, exchange-last, exchange-other, place-of, range-cons, length-shuffle, one-series}
+use Rattle.draws.proofs.Each.{order-iff, rolls-behind}
+use Rattle.rolls.specs.declared.answer.Answer.{Answer}
+use Rattle.rolls.specs.declared.answer.Behind.{Behind}
+use Rattle.promises.specs.Contracts.{RollsBehind, WordsBehind, MeetsOrder, MeetsBehind}
+use Rattle.promises.specs.Demand3.{places, rollsNamed, runsNamed, FullRuns, EachInRun}
+use Rattle.promises.specs.Demand2.{FullRun}
+
+-- the batches of a shuffle can be rolled
+pub plan-fits : (n : ℕ) → n ≤ 16384 → PlanOf (2 ^ 64) (shuffleBounds n) (shufflePlan size64 n)
+plan-fits = shuffle-plan (sizes-more (lit≤ tt) sizes64)
+
+-- ---- records read by their places
+
+-- ws holds at each place the record of xs whose place zs holds there
+record Reads (xs zs ws : List ℕ) : Type 0 where
+  same : length ws ≡ length zs
+  at : (i : ℕ) → i < length zs → getD ws i 0 ≡ getD xs (getD zs i 0) 0
+
+abbrev record-at : List ℕ → ℕ → ℕ
+record-at xs p = getD xs p 0
+
+module _ (xs : List ℕ) where
+  reads-start : Reads xs (countup (length xs) 0) xs
+  reads-start = record {
+    same = sym (countup-length (length xs) 0);
+    at = λ i h.
+        let l : i < length xs = rw countup-length at h in
+        ap (record-at xs) (sym (countup-at (length xs) 0 i l ∙ omega arith));
+  }
+
+  reads-exchange : (zs ws : List ℕ) (i j : ℕ) → i < length zs → j < length zs → Reads xs zs ws → Reads xs (exchange zs i j) (exchange ws i j)
+  reads-exchange zs ws i j hi hj r = record {
+    same = length-exchange ws i j ∙ r .same ∙ sym (length-exchange zs i j);
+    at = λ k h. go k (rw length-exchange at h) (ℕ-discrete k j) (ℕ-discrete k i);
+  }
+    where
+      in-ws : {k : ℕ} → k < length zs → k < length ws
+      in-ws h = rw (r .same) h
+
+      go : (k : ℕ) → k < length zs → Dec (k ≡ j) → Dec (k ≡ i) → getD (exchange ws i j) k 0 ≡ getD xs (getD (exchange zs i j) k 0) 0
+      go k h (yes e) d = rw e (exchange-last ws i j (in-ws hj) ∙ r .at i hi ∙ ap (record-at xs) (sym (exchange-last zs i j hj)))
+      go k h (no e) (yes f) = rw f (exchange-first ws i j (in-ws hi) ∙ r .at j hj ∙ ap (record-at xs) (sym (exchange-first zs i j hi)))
+      go k h (no e) (no f) = exchange-other ws i j k f e ∙ r .at k h ∙ ap (record-at xs) (sym (exchange-other zs i j k f e))
+
+  reads-shuffle : (m : ℕ) (rs zs ws : List ℕ) → m ≤ length zs → T (inRange (shuffleBounds m) rs) → Reads xs zs ws
+      → Reads xs (shuffleWith m rs zs) (shuffleWith m rs ws)
+  unfolding shuffleWith
+  reads-shuffle m [] zs ws h i r = r
+  reads-shuffle m (s ∷ rs) zs ws h i r =
+      let b = range-cons m s rs .0 i in
+      reads-shuffle (m - 1) rs (exchange zs s (m - 1)) (exchange ws s (m - 1)) (rw length-exchange (omega arith)) (b .2)
+      (reads-exchange zs ws s (m - 1) (omega (arith, b .1)) (omega (arith, b .0)) r)
+
+-- ---- the places of an order
+
+pub places-length : (xs ys : List ℕ) → length (places xs ys) ≡ length ys
+unfolding places
+places-length xs [] = refl
+places-length xs (y ∷ ys) = ap suc (places-length xs ys)
+
+pub places-at : (xs ys : List ℕ) (i : ℕ) → i < length ys → getD (places xs ys) i 0 ≡ placeOf (getD ys i 0) xs
+unfolding places
+places-at xs [] i h = absurd (not-suc-le-zero h)
+places-at xs (y ∷ ys) zero h = refl
+places-at xs (y ∷ ys) (suc i) h = places-at xs ys i (le-of-suc-le-suc h)
+
+pub truth : (b : Bool) → T b → b ≡ true
+truth true t = refl
+truth false t = absurd t
+
+-- the operation, where it refuses nothing
+pub order-done : (ys : List ℕ) (room : ℕ) → length ys ≤ 16384 → length ys - 1 ≤ room → T (isOrder ys)
+    → rollsBehind ys room ≡ done (rollsInto (length ys) (countup (length ys) 0) ys) 0 0
+unfolding rollsBehind
+order-done ys room h k t =
+    decide-past _ _ _ (in-count 0 16384 (length ys) zero-le h) ∙ decide-past _ _ _ (le-ltb room (length ys - 1) k)
+    ∙ decide-past _ _ _ (ap not (truth (isOrder ys) t)) ∙ decide-none _
+
+module _ (xs ys : List ℕ) (d : Distinct xs) (o : Reorders xs ys) where
+  stands : (i : ℕ) → i < length ys → (placeOf (getD ys i 0) xs < length xs) × (getD xs (placeOf (getD ys i 0) xs) 0 ≡ getD ys i 0)
+  stands i hi =
+      let a = o .among i hi in
+      let same : placeOf (getD ys i 0) xs ≡ a .0 = ap (λ (y : ℕ). placeOf y xs) (sym (a .2)) ∙ place-of xs (a .0) d (a .1) in
+      (rw same (a .1), ap (record-at xs) same ∙ a .2)
+
+  places-count : length (places xs ys) ≡ length xs
+  places-count = places-length xs ys ∙ o .same-length
+
+  pub places-order : T (isOrder (places xs ys))
+  places-order = order-iff (places xs ys) .1 (
+    λ i h. let k : i < length ys = rw places-length at h in rw (places-at xs ys i k, places-count) (stands i k .0),
+    λ i j hi hj e.
+        let ki : i < length ys = rw places-length at hi in
+        let kj : j < length ys = rw places-length at hj in
+        let same : placeOf (getD ys i 0) xs ≡ placeOf (getD ys j 0) xs = sym (places-at xs ys i ki) ∙ e ∙ places-at xs ys j kj in
+        o .distinct i j ki kj (sym (stands i ki .1) ∙ ap (record-at xs) same ∙ stands j kj .1),
+  )
+
+  pub rolls-same : rollsInto (length xs) (countup (length xs) 0) (places xs ys) ≡ rollsInto (length xs) xs ys
+  rolls-same = one-series xs ys d o .unique rs (only .in-range) gives
+    where
+      rs : List ℕ
+      rs = rollsInto (length xs) (countup (length xs) 0) (places xs ys)
+
+      only : Only (length xs) (countup (length xs) 0) (places xs ys) rs
+      only = rw places-count at (rolls-behind (places xs ys) places-order)
+
+      read : Reads xs (shuffleWith (length xs) rs (countup (length xs) 0)) (shuffleWith (length xs) rs xs)
+      read = reads-shuffle xs (length xs) rs (countup (length xs) 0) xs (omega (arith, countup-length (length xs) 0)) (only .in-range) (reads-start xs)
+
+      gives : shuffleWith (length xs) rs xs ≡ ys
+      gives = ext-getD 0 (shuffleWith (length xs) rs xs) ys (length-shuffle (length xs) rs xs ∙ sym (o .same-length)) at
+        where
+          at : (i : ℕ) → i < length (shuffleWith (length xs) rs xs) → getD (shuffleWith (length xs) rs xs) i 0 ≡ getD ys i 0
+          at i h =
+              let k : i < length ys = omega (arith, length-shuffle (length xs) rs xs, o .same-length) in
+              read .at i (omega (arith, read .same))
+              ∙ ap (record-at xs) (ap (λ (l : List ℕ). getD l i 0) (only .gives) ∙ places-at xs ys i k)
+              ∙ stands i k .1
+
+  pub rolls-named : (rolls : RollsBehind) → MeetsOrder rolls → length xs ≤ 16384 → rollsNamed rolls xs ys ≡ rollsInto (length xs) xs ys
+  rolls-named rolls m h =
+      let order : List ℕ = places xs ys in
+      let lent : List ℕ = replicate (length xs - 1) 0 in
+      let room : length lent ≡ length xs - 1 = length-replicate (length xs - 1) 0 in
+      let values : List ℕ = rollsInto (length xs) xs ys in
+      let count : length values ≡ length xs - 1 = range-length (shuffleBounds (length xs)) values (truth _ (one-series xs ys d o .in-range)) ∙ shuffle-bounds-length (length xs) in
+      let gives : rollsBehind order (length lent) ≡ done values 0 0 =
+      order-done order (length lent) (omega (arith, places-count)) (omega (arith, places-count)) places-order
+      ∙ ap (λ (l : List ℕ). done l 0 0) (rw places-count rolls-same) in
+      ap (λ (got : Answer × List ℕ). got .1) (m order lent) ∙ ap (left lent) gives
+      ∙ ap (λ (l : List ℕ). values ++ l) (drop-of-length-le lent {i = length values} (omega arith)) ∙ append-nil values
+
+-- ---- the run of a batch
+
+pos-no-zero : (bs : List ℕ) → 0 < product bs → hasZero bs ≡ false
+unfolding hasZero product
+pos-no-zero [] p = refl
+pos-no-zero (b ∷ bs) p =
+    let e : eqb b 0 ≡ false = ne-eqb b 0 (λ z. omega (arith, product-pos-head b (product bs) p)) in
+    rw e (pos-no-zero bs (product-pos-tail b (product bs) p))
+
+abbrev pub runOf : List ℕ → List ℕ → Behind
+runOf bs rs = record { no = 0; next = 0; rejected = 0; first = firstWord 64 bs rs; last = lastWord 64 bs rs }
+
+pub run-full : (bs rs : List ℕ) → Rollable (2 ^ 64) bs → T (inRange bs rs) → FullRun bs (runOf bs rs)
+run-full bs rs b i = record {
+  named = (refl, refl, refl);
+  some = first-last 64 bs rs (b .positive) (b .fits);
+  words = last-fits 64 bs rs (b .positive) (b .fits) i;
+  long = run-length 64 bs rs (b .positive) (b .fits);
+}
+
+pub run-named : (behind : WordsBehind) → MeetsBehind behind → (bs rs : List ℕ) → Rollable (2 ^ 64) bs → T (inRange bs rs) → behind bs rs ≡ runOf bs rs
+run-named behind meets bs rs b i =
+    meets bs rs
+    ∙ behind-found bs rs (in-count 1 16 (length bs) (b .some) (b .few)) (pos-no-zero bs (b .positive)) (le-ltb (2 ^ 64) (product bs) (b .fits)) (truth (inRange bs rs) i)
+
+pub range-split : (bs cs rs : List ℕ) → T (inRange (bs ++ cs) rs) → T (inRange bs (take (length bs) rs)) × T (inRange cs (drop (length bs) rs))
+unfolding inRange
+range-split [] cs rs i = (tt, i)
+range-split (b ∷ bs) cs [] i = absurd i
+range-split (b ∷ bs) cs (r ∷ rs) i =
+    let h = in-range-cons b (bs ++ cs) r rs .0 i in
+    let s = range-split bs cs rs (h .1) in
+    (in-range-cons b bs r (take (length bs) rs) .1 (h .0, s .0), s .1)
+
+module _ (behind : WordsBehind) (meets : MeetsBehind behind) where
+  pub runs-full : (plan : List (List ℕ)) (rs : List ℕ) → RollablePlan (2 ^ 64) plan → T (inRange (joined plan) rs) → FullRuns plan (runsNamed behind plan rs)
+  unfolding joined runsNamed
+  runs-full [] rs g i = tt
+  runs-full (bs ∷ plan) rs (b, g) i =
+      let s = range-split bs (joined plan) rs i in
+      let part : List ℕ = take (length bs) rs in
+      (subst (FullRun bs) (sym (run-named behind meets bs part b (s .0))) (run-full bs part b (s .0)), runs-full plan (drop (length bs) rs) g (s .1))
+
+  pub runs-in : (plan : List (List ℕ)) (rs words : List ℕ) → RollablePlan (2 ^ 64) plan → T (inRange (joined plan) rs)
+      → EachInRun (runsNamed behind plan rs) words ↔ InRuns 64 plan rs words
+  unfolding joined runsNamed
+  runs-in [] rs [] g i = (λ x. x, λ x. x)
+  runs-in [] rs (w ∷ ws) g i = (λ x. x, λ x. x)
+  runs-in (bs ∷ plan) rs [] g i = (λ x. x, λ x. x)
+  runs-in (bs ∷ plan) rs (w ∷ ws) (b, g) i =
+      let s = range-split bs (joined plan) rs i in
+      let part : List ℕ = take (length bs) rs in
+      let later = runs-in plan (drop (length bs) rs) ws g (s .1) in
+      subst (λ (run : Behind). ((run .first ≤ w) × (w ≤ run .last) × EachInRun (runsNamed behind plan (drop (length bs) rs)) ws) ↔ InRuns 64 (bs ∷ plan) rs (w ∷ ws))
+      (sym (run-named behind meets bs part b (s .0)))
+      (λ (low, high, x). (low, high, later .0 x), λ (low, high, x). (low, high, later .1 x))

@@ -1,0 +1,68 @@
+-- The first refusal of a list, over every operation. Assumes nothing.
+--
+--   first-here, first-past      the first of a list, by the test of its head
+--   as-refused                  a refusal is the first one, alone, whatever an operation's answer looks like
+--   decide-under                two lists that agree where their head does not apply
+--   allowed-cons, allowed-done  where no refusal applies: none of the list does, and the outcome is not refused
+use mathlib.Core.Path.{_≡_, refl, sym, ap, _∙_}
+use mathlib.Core.Bool.{Bool, true, false}
+use mathlib.Core.List.{List, [], _∷_}
+use Prim.Native.Nat.{ℕ}
+use native.Mathlib.Omega.{arith}
+use Rattle.rolls.specs.Outcome.{Outcome, refused, Refusal, no, decide}
+use Rattle.rolls.proofs.Deciding.{decide-here, decide-past, decide-none}
+use Rattle.promises.specs.Demand1.{firstOf, AsRefused}
+use Rattle.promises.specs.Demand2.{Allowed}
+
+module _ (r : Refusal) (rs : List Refusal) where
+  pub first-here : r .applies ≡ true → firstOf (r ∷ rs) ≡ r
+  unfolding firstOf
+  first-here e = ap (λ (b : Bool). elim b as (λ x. Refusal) [ true ↦ r | false ↦ firstOf rs ]) e
+
+  pub first-past : r .applies ≡ false → firstOf (r ∷ rs) ≡ firstOf rs
+  unfolding firstOf
+  first-past e = rw (e, firstOf)
+
+-- an answer that shows an outcome, and how it says a refusal; the outcome o is none
+module _ {A : Type 0} (show : Outcome → A) (number : A → ℕ) (saying : Refusal → A)
+    (says : (r : Refusal) → show (refused (r .number) (r .batch)) ≡ saying r) (numbers : (r : Refusal) → number (saying r) ≡ r .number)
+    (o : Outcome) (none : number (show o) ≡ 0) where
+  pub as-refused : (rs : List Refusal) (got : A) → got ≡ show (decide rs o) → AsRefused rs saying (number got) got
+  unfolding firstOf
+  as-refused [] got e =
+      let z : number got ≡ 0 = ap number (e ∙ ap show (decide-none o)) ∙ none in
+      record { lowest = z; whole = λ n. absurd (n z) }
+  as-refused (r ∷ rs) got e = go (r .applies) refl (as-refused rs got)
+    where
+      go : (b : Bool) → r .applies ≡ b → (got ≡ show (decide rs o) → AsRefused rs saying (number got) got) → AsRefused (r ∷ rs) saying (number got) got
+      go true f ih =
+          let said : got ≡ saying r = e ∙ ap show (decide-here r rs o f) ∙ says r in
+          let first : r ≡ firstOf (r ∷ rs) = sym (first-here r rs f) in
+          record { lowest = ap number said ∙ numbers r ∙ ap (λ (x : Refusal). x .number) first; whole = λ n. said ∙ ap saying first }
+      go false f ih =
+          let g = ih (e ∙ ap show (decide-past r rs o f)) in
+          let first : firstOf rs ≡ firstOf (r ∷ rs) = sym (first-past r rs f) in
+          record { lowest = g .lowest ∙ ap (λ (x : Refusal). x .number) first; whole = λ n. g .whole n ∙ ap saying first }
+
+pub decide-under : (r : Refusal) (rs ss : List Refusal) (o p : Outcome) → (r .applies ≡ false → decide rs o ≡ decide ss p)
+    → decide (r ∷ rs) o ≡ decide (r ∷ ss) p
+decide-under r rs ss o p h = go (r .applies) refl
+  where
+    go : (b : Bool) → r .applies ≡ b → decide (r ∷ rs) o ≡ decide (r ∷ ss) p
+    go true e = decide-here r rs o e ∙ sym (decide-here r ss p e)
+    go false e = decide-past r rs o e ∙ h e ∙ sym (decide-past r ss p e)
+
+-- ---- where no refusal applies
+
+pub allowed-cons : (r : Refusal) (rs : List Refusal) → Allowed (r ∷ rs) → (r .applies ≡ false) × Allowed rs
+allowed-cons r rs a = go (r .applies) refl
+  where
+    go : (b : Bool) → r .applies ≡ b → (r .applies ≡ false) × Allowed rs
+    go true e =
+        let z : _≡_ {A = Bool} true false = sym e ∙ ap (λ (x : Refusal). x .applies) (sym (first-here r rs e)) ∙ a in
+        absurd (let n : _≡_ {A = ℕ} 0 1 = cc in let f : ⊥ = omega arith in f)
+    go false e = (e, ap (λ (x : Refusal). x .applies) (sym (first-past r rs e)) ∙ a)
+
+pub allowed-done : (rs : List Refusal) (o : Outcome) → Allowed rs → decide rs o ≡ o
+allowed-done [] o a = decide-none o
+allowed-done (r ∷ rs) o a = let (e, later) = allowed-cons r rs a in decide-past r rs o e ∙ allowed-done rs o later

@@ -1,0 +1,175 @@
+-- The stand-ins fail. Where demand 2 holds of an operation, its answers are those of the definitions, so that one call which they answer
+-- otherwise is enough. Assumes nothing.
+use mathlib.Core.Path.{_≡_, refl, sym, ap, _∙_}
+use mathlib.Core.List.{List, [], _∷_, _++_}
+use Prim.Native.Nat.{ℕ, zero, suc, _-_, _^_, _<_, _≤_}
+use native.Mathlib.Nat.{not-suc-le-zero, le-of-suc-le-suc, mul-one}
+use native.Mathlib.Omega.{arith}
+use lib.Dec.{T, lit≤, lit<}
+use lib.ListN.{length, take, drop, getD, replicate}
+use Rattle.arithmetic.specs.Rolls.{rolls, rest, product, inRange}
+use Rattle.arithmetic.specs.Products.{hasZero}
+use Rattle.arithmetic.specs.Width.{w64, size64}
+use Rattle.rolls.specs.Run.{find, runFrom, rollsOf, next, rejected}
+use Rattle.rolls.specs.Cut.{cutFrom, cut}
+use Rattle.rolls.specs.Outcome.{decide, shownBatch}
+use Rattle.rolls.specs.Operations.{rollBatch, rollList}
+use Rattle.draws.specs.Shuffle.{exchange, shuffleWith, countdown, shufflePlanFrom, shufflePlan}
+use Rattle.draws.specs.Sample.{countup}
+use Rattle.draws.specs.Order.{eachOnce, AllBelow}
+use Rattle.draws.specs.Plan.{Rollable, RollablePlan}
+use Rattle.draws.specs.Operations.{shuffle}
+use Rattle.draws.proofs.Each.{countup-distinct}
+use Rattle.draws.proofs.Orders.{shuffle-reorders}
+use Rattle.promises.specs.Contracts.{RollBatch, RollList, Shuffle, RollsBehind, WordsBehind, seen, MeetsOrder, MeetsBehind}
+use Rattle.promises.specs.Demand1.{firstOf, batchRefusals, listRefusals, shuffleRefusals}
+use Rattle.promises.specs.Demand2.{Allowed, Lemire, Demand2Batch, Demand2List, Demand2Shuffle}
+use Rattle.promises.specs.Demand3.{Demand3}
+use Rattle.promises.specs.StandIns.{MovesNothing, FirstBatchOnly, Invented, StandIns}
+use Rattle.promises.proofs.Naming.{plan-fits}
+use Rattle.promises.proofs.Demand2.{one-outcome, demand2}
+use Rattle.promises.proofs.Demand3.{model, demand3}
+use Rattle.promises.proofs.FirstBatch.{fails-from-eight, holds-to-seven}
+
+below-nil : {top : ℕ} → AllBelow top []
+below-nil i h = absurd (not-suc-le-zero h)
+
+below-cons : {top : ℕ} (w : ℕ) (ws : List ℕ) → w < top → AllBelow top ws → AllBelow top (w ∷ ws)
+below-cons w ws h b zero k = h
+below-cons w ws h b (suc i) k = b i (le-of-suc-le-suc k)
+
+-- ---- demand 2 leaves one answer
+
+module _ (plan : List (List ℕ)) (words : List ℕ) (g : RollablePlan (2 ^ 64) plan) (w : AllBelow (2 ^ 64) words) (start m n r s : ℕ) (P Q : List ℕ → Type 0)
+    (a : Lemire plan words start m r P) (b : Lemire plan words start n s Q) where
+  same-outcome : (m ≡ n) × (r ≡ s) × (a .rolls ≡ b .rolls)
+  same-outcome =
+      one-outcome plan words g w start m n r s (a .rolls) (b .rolls)
+      (record { places = a .places; rolls = a .rolls; follows = a .follows; used = a .used; reading = refl })
+      (record { places = b .places; rolls = b .rolls; follows = b .follows; used = b .used; reading = refl })
+
+module _ (op : Shuffle) (demand : Demand2Shuffle op) (words : List ℕ) (start : ℕ) (xs : List ℕ) (w : AllBelow (2 ^ 64) words)
+    (a : Allowed (shuffleRefusals words start (length xs))) (h : length xs ≤ 16384) where
+  pinned : (op words start xs .0 .rejected ≡ model words start xs .0 .rejected) × (op words start xs .1 ≡ model words start xs .1)
+  pinned =
+      let mine = demand words start xs w a .1 in
+      let true-one = demand2 .shuffle model (λ w s x. refl) words start xs w a .1 in
+      let (e, f, g) = same-outcome (shufflePlan size64 (length xs)) words (plan-fits (length xs) h .rollable) w start _ _ _ _ _ _ mine true-one in
+      (f, mine .reading ∙ ap (λ (rs : List ℕ). shuffleWith (length xs) rs xs) g ∙ sym (true-one .reading))
+
+-- one batch of one bound
+module _ (b : ℕ) (p : 0 < b) (l : b < 2 ^ 64) (words : List ℕ) (w : AllBelow (2 ^ 64) words) where
+  one-bound : Rollable (2 ^ 64) (b ∷ [])
+  one-bound =
+      let e : product (b ∷ []) ≡ b = unfold product in mul-one b in
+      record { some = lit< tt; few = lit≤ tt; positive = rw e p; fits = rw e (omega arith) }
+
+  pinned-batch : (op : RollBatch) → Demand2Batch op → Allowed (batchRefusals words 0 (b ∷ []))
+      → op words 0 (b ∷ []) .rolls ≡ shownBatch 0 (rollBatch w64 words 0 (b ∷ [])) .rolls
+  pinned-batch op demand a =
+      let mine = demand words 0 (b ∷ []) w a .2 in
+      let true-one = demand2 .roll-batch (λ words start bs. shownBatch start (rollBatch w64 words start bs)) (λ w s x. refl) words 0 (b ∷ []) w a .2 in
+      let same = same-outcome ((b ∷ []) ∷ []) words (one-bound, tt) w 0 _ _ _ _ _ _ mine true-one .2 in
+      mine .reading ∙ ap (λ (rs : List ℕ). rs ++ replicate 15 0) same ∙ sym (true-one .reading)
+
+  pinned-list : (op : RollList) → Demand2List op → Allowed (listRefusals words 0 (b ∷ []) 1)
+      → op words 0 (b ∷ []) (0 ∷ []) .1 ≡ seen 0 (0 ∷ []) (rollList w64 words 0 (b ∷ []) 1) .1
+  unfolding cut cutFrom
+  pinned-list op demand a =
+      let bs : List ℕ = b ∷ [] in
+      let lent : List ℕ = 0 ∷ [] in
+      let below = below-cons b [] l below-nil in
+      let mine = demand words 0 bs lent w below a .1 in
+      let true-one = demand2 .roll-list (λ words start bs lent. seen start lent (rollList w64 words start bs (length lent))) (λ w s x y. refl) words 0 bs lent w below a .1 in
+      let same = same-outcome (bs ∷ []) words (one-bound, tt) w 0 _ _ _ _ _ _ mine true-one .2 in
+      mine .reading ∙ ap (λ (rs : List ℕ). rs ++ []) same ∙ sym (true-one .reading)
+
+-- a list of one word
+one-word : (w : ℕ) → w < 2 ^ 64 → AllBelow (2 ^ 64) (w ∷ [])
+one-word w h = below-cons w [] h below-nil
+
+-- ---- the calls that they answer otherwise
+
+-- bound 2: word 0 gives 0, and word 2^63 gives 1
+fixed-batch : (op : RollBatch) (fixed : List ℕ → List ℕ) → ((words : List ℕ) (start : ℕ) (bs : List ℕ) → op words start bs .rolls ≡ fixed bs)
+    → Demand2Batch op → ⊥
+unfolding firstOf hasZero product rest rolls find runFrom rollsOf next rejected decide rollBatch
+fixed-batch op fixed f d =
+    let low = pinned-batch 2 (lit< tt) (lit< tt) (0 ∷ []) (one-word 0 (lit< tt)) op d refl in
+    let high = pinned-batch 2 (lit< tt) (lit< tt) (2 ^ 63 ∷ []) (one-word (2 ^ 63) (lit< tt)) op d refl in
+    let z : _≡_ {A = ℕ} 0 1 = ap (λ (l : List ℕ). getD l 0 0) (sym low ∙ f (0 ∷ []) 0 (2 ∷ []) ∙ sym (f (2 ^ 63 ∷ []) 0 (2 ∷ [])) ∙ high) in
+    omega arith
+
+fixed-list : (op : RollList) (fixed : List ℕ → List ℕ → List ℕ)
+    → ((words : List ℕ) (start : ℕ) (bs lent : List ℕ) → op words start bs lent .1 ≡ fixed bs lent) → Demand2List op → ⊥
+unfolding firstOf hasZero product rest rolls find runFrom rollsOf next rejected decide rollList cut cutFrom
+fixed-list op fixed f d =
+    let low = pinned-list 2 (lit< tt) (lit< tt) (0 ∷ []) (one-word 0 (lit< tt)) op d refl in
+    let high = pinned-list 2 (lit< tt) (lit< tt) (2 ^ 63 ∷ []) (one-word (2 ^ 63) (lit< tt)) op d refl in
+    let z : _≡_ {A = ℕ} 0 1 =
+    ap (λ (l : List ℕ). getD l 0 0) (sym low ∙ f (0 ∷ []) 0 (2 ∷ []) (0 ∷ []) ∙ sym (f (2 ^ 63 ∷ []) 0 (2 ∷ []) (0 ∷ [])) ∙ high) in
+    omega arith
+
+-- two records, word 0: exchanged
+nothing-2 : (op : Shuffle) → MovesNothing op → Demand2Shuffle op → ⊥
+unfolding firstOf product rest rolls find runFrom rollsOf next rejected decide size64 shuffle shufflePlanFrom countdown shuffleWith exchange
+nothing-2 op m d =
+    let xs : List ℕ = 0 ∷ 1 ∷ [] in
+    let z : _≡_ {A = ℕ} 0 1 = ap (λ (l : List ℕ). getD l 0 0) (sym (m (0 ∷ []) 0 xs) ∙ pinned op d (0 ∷ []) 0 xs (one-word 0 (lit< tt)) refl (lit≤ tt) .1) in
+    omega arith
+
+nothing-3 : (op : Shuffle) → MovesNothing op → (rolls : RollsBehind) (behind : WordsBehind) → MeetsOrder rolls → MeetsBehind behind
+    → Demand3 op rolls behind → ⊥
+unfolding firstOf product rest rolls find runFrom rollsOf next rejected decide size64 shuffle shufflePlanFrom countdown shuffleWith exchange countup inRange
+nothing-3 op m rolls behind o b d =
+    let xs : List ℕ = 0 ∷ 1 ∷ [] in
+    let ys : List ℕ = 1 ∷ 0 ∷ [] in
+    let h = lit≤ {m = 2} {n = 16384} tt in
+    let reorders = shuffle-reorders 2 (0 ∷ []) xs (lit≤ tt) tt (countup-distinct 2) in
+    let w = one-word 0 (lit< tt) in
+    let in-runs = demand3 model rolls behind (λ w s x. refl) o b 2 h xs ys refl (countup-distinct 2) reorders .1 (0 ∷ []) refl w .0 (refl, refl) in
+    let (y, e) = d 2 h xs ys refl (countup-distinct 2) reorders .1 (0 ∷ []) refl w .1 in-runs in
+    let z : _≡_ {A = ℕ} 0 1 = ap (λ (l : List ℕ). getD l 0 0) (sym (m (0 ∷ []) 0 xs) ∙ e) in
+    omega arith
+
+-- eight records, words 1, 0: place 0 gets 1 in the end, and has 2 after the first batch
+first-2 : (op : Shuffle) → FirstBatchOnly op → Demand2Shuffle op → ⊥
+unfolding firstOf product rest rolls find runFrom rollsOf next rejected decide size64 shuffle shufflePlanFrom countdown shuffleWith exchange
+first-2 op f d =
+    let xs : List ℕ = 0 ∷ 1 ∷ 2 ∷ 3 ∷ 4 ∷ 5 ∷ 6 ∷ 7 ∷ [] in
+    let words : List ℕ = 1 ∷ 0 ∷ [] in
+    let w = below-cons 1 (0 ∷ []) (lit< tt) (one-word 0 (lit< tt)) in
+    let e = pinned op d words 0 xs w refl (lit≤ tt) .1 in
+    let z : _≡_ {A = ℕ} 2 1 = ap (λ (l : List ℕ). getD l 0 0) (sym (f .moves words 0 xs (d words 0 xs w refl .0)) ∙ e) in
+    omega arith
+
+-- three records: of the words 0, 1 one is rejected, of the words 1, 1 none
+count-2 : (op : Shuffle) → Invented op → Demand2Shuffle op → ⊥
+unfolding firstOf product rest rolls find runFrom rollsOf next rejected decide size64 shuffle shufflePlanFrom countdown shuffleWith exchange
+count-2 op (count, f) d =
+    let xs : List ℕ = 0 ∷ 1 ∷ 2 ∷ [] in
+    let w = one-word 1 (lit< tt) in
+    let one = pinned op d (0 ∷ 1 ∷ []) 0 xs (below-cons 0 (1 ∷ []) (lit< tt) w) refl (lit≤ tt) .0 in
+    let none = pinned op d (1 ∷ 1 ∷ []) 0 xs (below-cons 1 (1 ∷ []) (lit< tt) w) refl (lit≤ tt) .0 in
+    let z : _≡_ {A = ℕ} 1 0 = sym one ∙ f (0 ∷ 1 ∷ []) 0 xs ∙ sym (f (1 ∷ 1 ∷ []) 0 xs) ∙ none in
+    omega arith
+
+-- each operation has a call that no refusal applies to
+pub stand-ins : StandIns
+unfolding firstOf hasZero product rest find runFrom inRange cut countup eachOnce shufflePlanFrom
+stand-ins = record {
+  refuses-batch = λ op r d. r (0 ∷ []) 0 (1 ∷ []) (d (0 ∷ []) 0 (1 ∷ []) (one-word 0 (lit< tt)) refl .0);
+  refuses-list = λ op r d. r [] 0 [] [] (d [] 0 [] [] below-nil below-nil refl .0);
+  refuses-shuffle = λ op r d. r [] 0 [] (d [] 0 [] below-nil refl .0);
+  refuses-sample = λ op r d. r [] 0 (7 ∷ []) 1 (0 ∷ []) (d [] 0 (7 ∷ []) 1 (0 ∷ []) below-nil refl .0);
+  refuses-behind = λ op r d. r (1 ∷ []) (0 ∷ []) (d (1 ∷ []) (0 ∷ []) refl .0 .named .0);
+  refuses-order = λ op r d. r [] [] (d [] [] refl .0);
+  fixed-batch = fixed-batch;
+  fixed-list = fixed-list;
+  nothing-2 = nothing-2;
+  nothing-3 = nothing-3;
+  first-2 = first-2;
+  first-3 = fails-from-eight;
+  first-3-before = holds-to-seven;
+  count-2 = count-2;
+}

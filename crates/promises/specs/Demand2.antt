@@ -1,0 +1,140 @@
+-- Demand 2: rolls, shuffles and samples are what the papers' methods give on those words, and the way back holds.
+--
+-- The letter: "Rolls, shuffles and samples equal what Lemire's batched rejection method, the Fisher-Yates shuffle and reservoir sampling
+-- give on those words, with the same words used and rejected. The way back also holds: from rolls to the words behind them, from an order
+-- to its rolls." Document 01, "Numbers for no": "none is given otherwise [..] Success returns the place after the last word used (the start
+-- where none was) and the count of rejected words; words used are batches plus rejected."
+--
+--   Allowed refusals                    none of the refusals applies
+--   Unfolded bs word rs r               a batch's rolls rs and last r of one word: product * word = 2^64 * value + last r
+--   Gives bs word rs                    the word gives these rolls, accepted: the last r is at least t = 2^64 mod product
+--   Rejects bs word                     the word is rejected: the last r is below t
+--   First bs words from place rs        of the words from a place on, the first that is accepted stands here, and gives these rolls
+--   Follows plan words from next ps rs  each batch in turn takes the first accepted word from the place after the one before; these are
+--                                       their places, the place after the last of them, and the rolls, batch after batch
+--   Lemire plan words start next rejected Read    so it is for some places and rolls; used = batches + rejected; and the rolls read so
+--   Demand2Batch .. Demand2Order        the demand on each operation, on every call that no refusal of demand 1 applies to
+--   FullRun bs run                      a run of words: named, not empty, below 2^64, as many as 2^64 / product
+--   Demand2                             the statement: it holds of each operation that meets its contract; and of the bounds in the plans
+use mathlib.Core.Path.{_≡_}
+use mathlib.Core.Logic.{_↔_}
+use mathlib.Core.Bool.{false}
+use mathlib.Core.List.{List, [], _∷_, _++_}
+use Prim.Native.Nat.{ℕ, _+_, _-_, _*_, _/_, _%_, _^_, _<_, _≤_}
+use lib.Dec.{T}
+use lib.ListN.{length, take, drop, getD, replicate}
+use Rattle.arithmetic.specs.Rolls.{product, value, inRange}
+use Rattle.arithmetic.specs.Width.{size64}
+use Rattle.rolls.specs.Cut.{cut}
+use Rattle.rolls.specs.Outcome.{Refusal}
+use Rattle.draws.specs.Shuffle.{shuffleWith, shuffleBounds, shufflePlan}
+use Rattle.draws.specs.Sample.{countup, reservoir}
+use Rattle.draws.specs.Order.{AllBelow, Only}
+use Rattle.draws.specs.Plan.{RollablePlan, PlanOf}
+use Rattle.rolls.specs.declared.answer.Batch.{Batch}
+use Rattle.rolls.specs.declared.answer.Behind.{Behind}
+use Rattle.promises.specs.Contracts.{RollBatch, RollList, WordsBehind, Shuffle, Sample, RollsBehind}
+use Rattle.promises.specs.Contracts.{MeetsBatch, MeetsList, MeetsBehind, MeetsShuffle, MeetsSample, MeetsOrder}
+use Rattle.promises.specs.Demand1.{firstOf, samplePlan, batchRefusals, listRefusals, shuffleRefusals, sampleRefusals, behindRefusals, orderRefusals}
+
+abbrev pub Allowed : List Refusal → Type 0
+Allowed refusals = firstOf refusals .applies ≡ false
+
+-- ---- Lemire's batched rejection method
+
+-- one roll for each bound, each below it; the rolls and the last r are the only ones with this equation
+pub record Unfolded (bs : List ℕ) (word : ℕ) (rs : List ℕ) (r : ℕ) : Type 0 where
+  pub range : T (inRange bs rs)
+  pub rest : r < 2 ^ 64
+  pub law : product bs * word ≡ 2 ^ 64 * value bs rs + r
+
+abbrev pub Gives : List ℕ → ℕ → List ℕ → Type 0
+Gives bs word rs = (r : ℕ) × Unfolded bs word rs r × (2 ^ 64 % product bs ≤ r)
+
+abbrev pub Rejects : List ℕ → ℕ → Type 0
+Rejects bs word = (rs : List ℕ) × (r : ℕ) × Unfolded bs word rs r × (r < 2 ^ 64 % product bs)
+
+pub record First (bs words : List ℕ) (from place : ℕ) (rs : List ℕ) : Type 0 where
+  pub here : (from ≤ place) × (place < length words)
+  pub gives : Gives bs (getD words place 0) rs
+  pub before : (i : ℕ) → from ≤ i → i < place → Rejects bs (getD words i 0)
+
+abbrev pub Follows : List (List ℕ) → List ℕ → ℕ → ℕ → List ℕ → List ℕ → Type 0
+Follows [] words from next [] rs = (next ≡ from) × (rs ≡ [])
+Follows [] words from next (p ∷ ps) rs = ⊥
+Follows (bs ∷ plan) words from next [] rs = ⊥
+Follows (bs ∷ plan) words from next (p ∷ ps) rs =
+    First bs words from p (take (length bs) rs) × Follows plan words (p + 1) next ps (drop (length bs) rs)
+
+pub record Lemire (plan : List (List ℕ)) (words : List ℕ) (start next rejected : ℕ) (Read : List ℕ → Type 0) : Type 0 where
+  pub places : List ℕ
+  pub rolls : List ℕ
+  pub follows : Follows plan words start next places rolls
+  pub used : next ≡ start + (length plan + rejected)
+  pub reading : Read rolls
+
+-- ---- the operations that use words
+
+abbrev pub Demand2Batch : RollBatch → Type 0
+Demand2Batch op = (words : List ℕ) (start : ℕ) (bs : List ℕ) → AllBelow (2 ^ 64) words → Allowed (batchRefusals words start bs)
+    → let a : Batch = op words start bs in
+    (a .no ≡ 0) × (a .count ≡ length bs)
+    × Lemire (bs ∷ []) words start (a .next) (a .rejected) (λ rs. a .rolls ≡ rs ++ replicate (16 - length bs) 0)
+
+abbrev pub Demand2List : RollList → Type 0
+Demand2List op = (words : List ℕ) (start : ℕ) (bs lent : List ℕ) → AllBelow (2 ^ 64) words → AllBelow (2 ^ 64) bs
+    → Allowed (listRefusals words start bs (length lent))
+    → let (a, after) = op words start bs lent in
+    (a .no ≡ 0) × Lemire (cut (2 ^ 56) bs) words start (a .next) (a .rejected) (λ rs. after ≡ rs ++ drop (length bs) lent)
+
+-- Fisher-Yates with these rolls
+abbrev pub Demand2Shuffle : Shuffle → Type 0
+Demand2Shuffle op = (words : List ℕ) (start : ℕ) (xs : List ℕ) → AllBelow (2 ^ 64) words → Allowed (shuffleRefusals words start (length xs))
+    → let (a, after) = op words start xs in
+    (a .no ≡ 0)
+    × Lemire (shufflePlan size64 (length xs)) words start (a .next) (a .rejected) (λ rs. after ≡ shuffleWith (length xs) rs xs)
+
+-- the reservoir with these rolls
+abbrev pub Demand2Sample : Sample → Type 0
+Demand2Sample op = (words : List ℕ) (start : ℕ) (xs : List ℕ) (k : ℕ) (lent : List ℕ) → AllBelow (2 ^ 64) words
+    → Allowed (sampleRefusals words start (length xs) k (length lent))
+    → let (a, after) = op words start xs k lent in
+    (a .no ≡ 0)
+    × Lemire (samplePlan (length xs) k) words start (a .next) (a .rejected)
+    (λ rs. after ≡ reservoir (take k xs) (drop k xs) rs ++ drop k lent)
+
+-- ---- the way back
+
+pub record FullRun (bs : List ℕ) (run : Behind) : Type 0 where
+  pub named : (run .no ≡ 0) × (run .next ≡ 0) × (run .rejected ≡ 0)
+  pub some : run .first ≤ run .last
+  pub words : run .last < 2 ^ 64
+  pub long : run .last - run .first + 1 ≡ 2 ^ 64 / product bs
+
+-- the words from first to last, and no other words, give those rolls, accepted
+abbrev pub Demand2Behind : WordsBehind → Type 0
+Demand2Behind op = (bs rs : List ℕ) → Allowed (behindRefusals bs rs)
+    → FullRun bs (op bs rs) × ((w : ℕ) → w < 2 ^ 64 → Gives bs w rs ↔ ((op bs rs .first ≤ w) × (w ≤ op bs rs .last)))
+
+-- the rolls, and no others in range, shuffle 0 .. n - 1 into the order
+abbrev pub Demand2Order : RollsBehind → Type 0
+Demand2Order op = (ys lent : List ℕ) → Allowed (orderRefusals ys (length lent))
+    → let (a, after) = op ys lent in
+    (a .no ≡ 0) × (a .next ≡ 0) × (a .rejected ≡ 0)
+    × (rs : List ℕ) × (after ≡ rs ++ drop (length ys - 1) lent) × Only (length ys) (countup (length ys) 0) ys rs
+
+-- ---- the demand
+
+pub record Demand2 : Type 0 where
+  pub roll-batch : (op : RollBatch) → MeetsBatch op → Demand2Batch op
+  pub roll-list : (op : RollList) → MeetsList op → Demand2List op
+  pub shuffle : (op : Shuffle) → MeetsShuffle op → Demand2Shuffle op
+  pub sample : (op : Sample) → MeetsSample op → Demand2Sample op
+  pub words-behind : (op : WordsBehind) → MeetsBehind op → Demand2Behind op
+  pub rolls-behind : (op : RollsBehind) → MeetsOrder op → Demand2Order op
+  -- the bounds of a shuffle, batch after batch, are n, n - 1, .., 2, and those of a sample k + 1, .., n
+  pub shuffle-bounds : (n : ℕ) → n ≤ 16384 → PlanOf (2 ^ 56) (shuffleBounds n) (shufflePlan size64 n)
+  pub sample-bounds : (n k : ℕ) → n ≤ 16384 → PlanOf (2 ^ 56) (countup (n - k) (k + 1)) (samplePlan n k)
+  -- the method leaves nothing open: of a plan that can be rolled, and of words, it gives one next place, one count, one series of rolls
+  pub one-outcome : (plan : List (List ℕ)) (words : List ℕ) → RollablePlan (2 ^ 64) plan → AllBelow (2 ^ 64) words → (start m n r s : ℕ) (xs ys : List ℕ)
+      → Lemire plan words start m r (λ rs. rs ≡ xs) → Lemire plan words start n s (λ rs. rs ≡ ys) → (m ≡ n) × (r ≡ s) × (xs ≡ ys)

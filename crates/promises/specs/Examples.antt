@@ -1,0 +1,85 @@
+-- The checked examples.
+--
+-- Document 01, "Checked examples": "Those with * are proved." Each starred line stands here as one entry or more, over the
+-- definitions that the contracts cite. An entry is true where the definitions give what the paper says. The statement is that all
+-- of them are; one proof settles it.
+--
+--   same xs ys             whether two lists of numbers are equal
+--   o is p                 whether two outcomes are equal
+--   gives L bs word rs     whether the word is accepted at width L and gives these rolls
+--   all cs                 whether every entry is true
+--   eight                  the records 0, 1, .., 7
+--   table                  the starred lines
+use mathlib.Core.Bool.{Bool, true, false, not, _&&_}
+use mathlib.Core.List.{List, [], _∷_}
+use Prim.Native.Nat.{ℕ, _+_, _-_, _^_}
+use lib.Dec.{T, eqb}
+use Rattle.arithmetic.specs.Width.{w64}
+use Rattle.arithmetic.specs.Rolls.{rolls, rest, product, threshold, accepted}
+use Rattle.rolls.specs.Outcome.{Outcome, refused, done, left}
+use Rattle.rolls.specs.Operations.{rollBatch, wordsBehind}
+use Rattle.draws.specs.Operations.{shuffle, rollsBehind}
+
+abbrev pub same : List ℕ → List ℕ → Bool
+same [] [] = true
+same [] (y ∷ ys) = false
+same (x ∷ xs) [] = false
+same (x ∷ xs) (y ∷ ys) = eqb x y && same xs ys
+
+infix 80 _is_
+abbrev pub _is_ : Outcome → Outcome → Bool
+(refused m j) is (refused n k) = eqb m n && eqb j k
+(refused m j) is (done ys q s) = false
+(done xs p r) is (refused n k) = false
+(done xs p r) is (done ys q s) = same xs ys && eqb p q && eqb r s
+
+abbrev pub gives : ℕ → List ℕ → ℕ → List ℕ → Bool
+gives L bs word rs = accepted L bs word && same (rolls L bs word) rs
+
+abbrev pub all : List Bool → Bool
+all [] = true
+all (c ∷ cs) = c && all cs
+
+abbrev pub eight : List ℕ
+eight = 0 ∷ 1 ∷ 2 ∷ 3 ∷ 4 ∷ 5 ∷ 6 ∷ 7 ∷ []
+
+unfoldable pub table : List Bool
+table =
+    -- L = 4, bounds 2, 6 (b = 12, t = 4): words 0, 4, 8, 12 rejected
+    eqb (product (2 ∷ 6 ∷ [])) 12
+    ∷ eqb (threshold 4 12) 4
+    ∷ not (accepted 4 (2 ∷ 6 ∷ []) 0)
+    ∷ not (accepted 4 (2 ∷ 6 ∷ []) 4)
+    ∷ not (accepted 4 (2 ∷ 6 ∷ []) 8)
+    ∷ not (accepted 4 (2 ∷ 6 ∷ []) 12)
+    -- 1 gives (0, 0); 3 gives (0, 2) with last r 4; 5 gives (0, 3); 15 gives (1, 5)
+    ∷ gives 4 (2 ∷ 6 ∷ []) 1 (0 ∷ 0 ∷ [])
+    ∷ gives 4 (2 ∷ 6 ∷ []) 3 (0 ∷ 2 ∷ [])
+    ∷ eqb (rest 4 (2 ∷ 6 ∷ []) 3) 4
+    ∷ gives 4 (2 ∷ 6 ∷ []) 5 (0 ∷ 3 ∷ [])
+    ∷ gives 4 (2 ∷ 6 ∷ []) 15 (1 ∷ 5 ∷ [])
+    -- Bounds 2^32, 2^32: word 1 gives (0, 1); word 0 gives (0, 0), accepted. Bounds 2^32, 2^32 + 1: refused 5
+    ∷ rollBatch w64 (1 ∷ []) 0 (2 ^ 32 ∷ 2 ^ 32 ∷ []) is done (0 ∷ 1 ∷ []) 1 0
+    ∷ rollBatch w64 (0 ∷ []) 0 (2 ^ 32 ∷ 2 ^ 32 ∷ []) is done (0 ∷ 0 ∷ []) 1 0
+    ∷ rollBatch w64 (1 ∷ []) 0 (2 ^ 32 ∷ (2 ^ 32 + 1) ∷ []) is refused 5 0
+    -- Bound 2^64 - 1: word 0 rejected, 1 gives 0, 2 gives 1
+    ∷ rollBatch w64 (0 ∷ []) 0 ((2 ^ 64 - 1) ∷ []) is refused 10 0
+    ∷ rollBatch w64 (0 ∷ 1 ∷ []) 0 ((2 ^ 64 - 1) ∷ []) is done (0 ∷ []) 2 1
+    ∷ rollBatch w64 (2 ∷ []) 0 ((2 ^ 64 - 1) ∷ []) is done (1 ∷ []) 1 0
+    -- Words behind (0, 0) for bounds 2, 6: 1 to 1537228672809129301. For bound 1, roll 0: 0 to 2^64 - 1
+    ∷ wordsBehind w64 (2 ∷ 6 ∷ []) (0 ∷ 0 ∷ []) is done (1 ∷ 1537228672809129301 ∷ []) 0 0
+    ∷ wordsBehind w64 (1 ∷ []) (0 ∷ []) is done (0 ∷ (2 ^ 64 - 1) ∷ []) 0 0
+    -- Shuffle of 0, 1, 2 with words 0, 1: 1, 2, 0, one rejected. Two records, word 0: exchanged; word 2^63: not
+    ∷ shuffle w64 (0 ∷ 1 ∷ []) 0 (0 ∷ 1 ∷ 2 ∷ []) is done (1 ∷ 2 ∷ 0 ∷ []) 2 1
+    ∷ shuffle w64 (0 ∷ []) 0 (7 ∷ 9 ∷ []) is done (9 ∷ 7 ∷ []) 1 0
+    ∷ shuffle w64 (2 ^ 63 ∷ []) 0 (7 ∷ 9 ∷ []) is done (7 ∷ 9 ∷ []) 1 0
+    -- Eight records 0..7, words 1, 0: 1, 2, 3, 4, 5, 6, 7, 0. With word 1 alone: refused 10, batch 1, records as they were
+    ∷ shuffle w64 (1 ∷ 0 ∷ []) 0 eight is done (1 ∷ 2 ∷ 3 ∷ 4 ∷ 5 ∷ 6 ∷ 7 ∷ 0 ∷ []) 2 0
+    ∷ shuffle w64 (1 ∷ []) 0 eight is refused 10 1
+    ∷ same (left eight (shuffle w64 (1 ∷ []) 0 eight)) eight
+    -- Rolls behind 1, 2, 0: 0, 0
+    ∷ rollsBehind (1 ∷ 2 ∷ 0 ∷ []) 2 is done (0 ∷ 0 ∷ []) 0 0
+    ∷ []
+
+abbrev pub Examples : Type 0
+Examples = T (all table)
