@@ -56,6 +56,20 @@ typedef struct {
     uint64_t last;
 } hildrasp_behind;
 
+/* A draw from a sheet, with the six numbers that the sheet starts with. */
+typedef struct {
+    uint64_t no;
+    size_t next;
+    size_t rejected;
+    size_t batch;
+    uint32_t words;      /* count of words */
+    uint32_t words_at;   /* byte offset of words */
+    uint32_t records;    /* count of records */
+    uint32_t records_at; /* byte offset of records */
+    uint32_t k;          /* sample size */
+    uint32_t w;          /* count of early reviews */
+} hildrasp_drawn;
+
 /* Rolls one batch of 1 to 16 bounds. Refusals: 2, 4, 5, 9, 10. */
 hildrasp_batch hildrasp_roll_batch(const uint64_t *words, size_t word_count, size_t start,
                                    const uint64_t *bounds, size_t bound_count);
@@ -81,6 +95,9 @@ hildrasp_answer hildrasp_sample(const uint64_t *words, size_t word_count, size_t
 /* Names the rolls that shuffle 0, 1, .., n - 1 into this order, in the lent list `rolls`. Refusals: 2, 6, 8. */
 hildrasp_answer hildrasp_rolls_behind(const uint32_t *order, size_t order_count,
                                       uint64_t *rolls, size_t room);
+
+/* Runs a draw sheet of 24 to 65,535 bytes: the sample from start 0, into the lent list `slots`. Refusals: 1, 3, 6, 10. */
+hildrasp_drawn hildrasp_run_sheet(const uint8_t *sheet, size_t byte_count, uint32_t *slots, size_t room);
 
 #ifdef __cplusplus
 }

@@ -45,6 +45,25 @@ impl Rolls {
     }
 }
 
+/// A draw from a sheet: the words that it used, and the six numbers that the sheet starts with.
+#[derive(Debug, Clone, Copy, PartialEq, Eq)]
+pub struct Draw {
+    /// The words that the draw used.
+    pub used: Used,
+    /// The count of words on the sheet.
+    pub words: u32,
+    /// The byte offset of words.
+    pub words_at: u32,
+    /// The count of records on the sheet.
+    pub records: u32,
+    /// The byte offset of records.
+    pub records_at: u32,
+    /// The sample size.
+    pub k: u32,
+    /// The count of early reviews: the first w slots are early, the others late.
+    pub w: u32,
+}
+
 /// Rolls one batch: one word gives a roll for each of 1 to 16 bounds, whose product is at most 2^64.
 ///
 /// It starts with the word as r. For each bound in turn, bound times r equals 2^64 times the roll plus the new r. The
@@ -206,6 +225,50 @@ pub fn sample(words: &[u64], start: usize, records: &[u32], k: usize, slots: &mu
 /// ```
 pub fn rolls_behind(order: &[u32], rolls: &mut [u64]) -> Result<(), Refusal> {
     used(raw::rolls_behind(order, rolls)).map(|_| ())
+}
+
+/// Runs a draw sheet of 24 to 65,535 bytes: the sample of its records by its words from start 0, in the first k places of
+/// the lent list `slots`; places past k stay.
+///
+/// A sheet starts with six 32-bit numbers, low byte first: count of words, byte offset of words, count of records, byte
+/// offset of records, k, w. Words take 8 bytes, records 4, low byte first. The sheet is sound exactly when its length is
+/// allowed, each offset is at least 24, each area ends within the sheet, and the areas share no byte. Gaps may hold
+/// anything.
+///
+/// **Words used:** those of the sheet, as [`sample`] uses them.
+///
+/// **Refusals, in this order:** 1 [`Sheet`](Refusal::Sheet), 3 [`Sample`](Refusal::Sample), 6 [`Room`](Refusal::Room),
+/// 10 [`Words`](Refusal::Words). The slots then stay the same.
+///
+/// **Cost:** linear in the sheet's length, with a division for each batch.
+///
+/// The answer to the same sheet never changes.
+///
+/// ```
+/// let mut sheet = Vec::new();
+/// for number in [2_u32, 24, 3, 40, 1, 1] {
+///     sheet.extend(number.to_le_bytes());
+/// }
+/// for word in [0_u64, 1] {
+///     sheet.extend(word.to_le_bytes());
+/// }
+/// for record in [101_u32, 205, 309] {
+///     sheet.extend(record.to_le_bytes());
+/// }
+/// let mut slots = [0];
+/// let draw = hildrasp::run_sheet(&sheet, &mut slots)?;
+/// assert_eq!(slots, [309]);
+/// assert_eq!((draw.records, draw.k, draw.w), (3, 1, 1));
+/// assert_eq!(draw.used, hildrasp::Used { next: 2, rejected: 1 });
+/// # Ok::<(), hildrasp::Refusal>(())
+/// ```
+pub fn run_sheet(sheet: &[u8], slots: &mut [u32]) -> Result<Draw, Refusal> {
+    let drawn = raw::run_sheet(sheet, slots);
+    let raw::Drawn { no, next, rejected, batch, words, words_at, records, records_at, k, w } = drawn;
+    match Refusal::given(no, batch) {
+        Some(refusal) => Err(refusal),
+        None => Ok(Draw { used: Used { next, rejected }, words, words_at, records, records_at, k, w }),
+    }
 }
 
 /// The words that a call used, or its refusal.

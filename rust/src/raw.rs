@@ -47,6 +47,32 @@ pub struct Behind {
     pub last: u64,
 }
 
+/// A draw from a sheet, with the six numbers that the sheet starts with.
+#[repr(C)]
+#[derive(Debug, Clone, Copy, PartialEq, Eq)]
+pub struct Drawn {
+    /// The number of the refusal, 0 where nothing is refused.
+    pub no: u64,
+    /// The place after the last word used.
+    pub next: usize,
+    /// The count of rejected words.
+    pub rejected: usize,
+    /// At number 10, the first batch, from 0, that got no word.
+    pub batch: usize,
+    /// The count of words.
+    pub words: u32,
+    /// The byte offset of words.
+    pub words_at: u32,
+    /// The count of records.
+    pub records: u32,
+    /// The byte offset of records.
+    pub records_at: u32,
+    /// The sample size.
+    pub k: u32,
+    /// The count of early reviews.
+    pub w: u32,
+}
+
 extern "C" {
     fn hildrasp_roll_batch(
         words: *const u64,
@@ -88,6 +114,8 @@ extern "C" {
     ) -> Answer;
 
     fn hildrasp_rolls_behind(order: *const u32, order_count: usize, rolls: *mut u64, room: usize) -> Answer;
+
+    fn hildrasp_run_sheet(sheet: *const u8, byte_count: usize, slots: *mut u32, room: usize) -> Drawn;
 }
 
 // Safety, for every call below: each pointer and the count beside it are those of one slice, which lives through the
@@ -142,4 +170,9 @@ pub fn sample(words: &[u64], start: usize, records: &[u32], k: usize, slots: &mu
 /// Names the rolls behind an order in the lent list `rolls`.
 pub fn rolls_behind(order: &[u32], rolls: &mut [u64]) -> Answer {
     unsafe { hildrasp_rolls_behind(order.as_ptr(), order.len(), rolls.as_mut_ptr(), rolls.len()) }
+}
+
+/// Runs a draw sheet, with its sample in the lent list `slots`.
+pub fn run_sheet(sheet: &[u8], slots: &mut [u32]) -> Drawn {
+    unsafe { hildrasp_run_sheet(sheet.as_ptr(), sheet.len(), slots.as_mut_ptr(), slots.len()) }
 }

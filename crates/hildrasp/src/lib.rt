@@ -3,12 +3,14 @@
 use rolls::answer::Answer;
 use rolls::answer::Batch;
 use rolls::answer::Behind;
+use sheet::run::Drawn;
 ghost use mathlib.Core.Path.{_≡_};
 ghost use lib.ListN.{length};
 ghost use Rattle.arithmetic.specs.Width.{w64};
 ghost use Rattle.rolls.specs.Outcome.{shown, shownBatch, shownBehind, left};
 ghost use Rattle.rolls.specs.Operations.{rollBatch, rollList, wordsBehind};
 ghost use Rattle.draws.specs.Operations.{shuffle, sample, rollsBehind};
+ghost use Rattle.sheet.specs.Operations.{runSheet, shownDrawn};
 
 #[no_mangle]
 pub extern "C" fn hildrasp_roll_batch(words: &[u64], start: usize, bounds: &[u64]) -> Batch
@@ -65,4 +67,12 @@ pub extern "C" fn hildrasp_rolls_behind(order: &[u32], rolls: &mut [u64]) -> Ans
     ensures rolls { λ r. ⌜ now (rolls .exit) ≡ left (now (rolls .entry)) (rollsBehind (now (order .entry)) (length (now (rolls .entry)))) ⌝ }
 {
     draws::order::rolls_behind(order, rolls)
+}
+
+#[no_mangle]
+pub extern "C" fn hildrasp_run_sheet(sheet: &[u8], slots: &mut [u32]) -> Drawn
+    ensures answer { λ r. ⌜ r ≡ shownDrawn (now (sheet .entry)) (runSheet w64 (now (sheet .entry)) (length (now (slots .entry)))) ⌝ }
+    ensures slots { λ r. ⌜ now (slots .exit) ≡ left (now (slots .entry)) (runSheet w64 (now (sheet .entry)) (length (now (slots .entry)))) ⌝ }
+{
+    sheet::run::run_sheet(sheet, slots)
 }

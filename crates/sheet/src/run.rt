@@ -1,4 +1,31 @@
-// Running a draw sheet.
+// Running a draw sheet: whether it is sound, and then the sample that it asks for.
+use super::bytes::read_number;
+use super::bytes::read_records;
+use super::bytes::read_words;
+use draws::sample::sample_records;
+use rolls::answer::Answer;
+use rolls::refusal;
+ghost use mathlib.Core.Path.{_≡_};
+ghost use mathlib.Core.List.{[]};
+ghost use Prim.Native.Nat.{_≤_, min, max};
+ghost use lib.Dec.{ltb};
+ghost use lib.ListN.{length};
+ghost use Rattle.arithmetic.specs.Width.{w64};
+ghost use Rattle.rolls.specs.Outcome.{refused, done, shown, left};
+ghost use Rattle.draws.specs.Operations.{sample};
+ghost use Rattle.sheet.specs.Sheet.{numbers, wordsOf, recordsOf, Sound, isSound};
+ghost use Rattle.sheet.specs.Operations.{runSheet, shownDrawn};
+
+// The bytes of the six numbers: the least length of a sheet, and the least offset of an area.
+const HEADER: u64 = 24;
+
+// The most bytes of a sheet.
+const MAX_SHEET: u64 = 65535;
+
+// The most words of a sheet, (65,535 - 24) / 8, and the most records, (65,535 - 24) / 4.
+const SHEET_WORDS: usize = 8188;
+
+const SHEET_RECORDS: usize = 16377;
 
 // The answer of a draw, and the six numbers of its sheet.
 #[repr(C)]
@@ -13,4 +40,131 @@ pub struct Drawn {
     pub records_at: u32,
     pub k: u32,
     pub w: u32,
+}
+
+// Whether two areas share a byte: the later start is before the earlier end. An empty area shares none, wherever it lies.
+fn share_byte(from: u64, to: u64, start: u64, end: u64) -> bool
+    ensures { λ r. ⌜ r ≡ ltb (max from start) (min to end) ⌝ }
+{
+    let later = if from < start { start } else { from };
+    let earlier = if to < end { to } else { end };
+    later < earlier
+}
+
+// Whether the sheet is sound: its length is allowed, each offset is at least 24, each area ends within the sheet, and the areas
+// share no byte. The sums are of 64 bits, which hold 8 * count for every count.
+pub fn is_sound(sheet: &[u8]) -> bool
+    ensures { λ r. ⌜ r ≡ isSound (now (sheet .entry)) ⌝ }
+{
+    let length = sheet.len() as u64;
+    if length < HEADER {
+        return false;
+    }
+    if MAX_SHEET < length {
+        return false;
+    }
+    let words_at = read_number(sheet, 4) as u64;
+    let words_end = words_at + 8 * read_number(sheet, 0) as u64;
+    let records_at = read_number(sheet, 12) as u64;
+    let records_end = records_at + 4 * read_number(sheet, 8) as u64;
+    if words_at < HEADER {
+        return false;
+    }
+    if records_at < HEADER {
+        return false;
+    }
+    if length < words_end {
+        return false;
+    }
+    if length < records_end {
+        return false;
+    }
+    !share_byte(words_at, words_end, records_at, records_end)
+}
+
+// A refusal: its number, the batch at number 10, and zeros elsewhere.
+fn refused_drawn(number: u64, batch: usize) -> Drawn
+    ensures { λ r. ⌜ r ≡ shownDrawn [] (refused number batch) ⌝ }
+{
+    Drawn {
+        no: number,
+        next: 0,
+        rejected: 0,
+        batch,
+        words: 0,
+        words_at: 0,
+        records: 0,
+        records_at: 0,
+        k: 0,
+        w: 0,
+    }
+}
+
+// An answer that refuses nothing, with the six numbers of its sheet.
+fn done_drawn(sheet: &[u8], answer: Answer) -> Drawn
+    requires { ⌜ (24 ≤ length (now sheet)) × (answer .no ≡ 0) × (answer .batch ≡ 0) ⌝ }
+    ensures { λ r. ⌜ r ≡ shownDrawn (now (sheet .entry)) (done [] (answer .next) (answer .rejected)) ⌝ }
+{
+    Drawn {
+        no: answer.no,
+        next: answer.next,
+        rejected: answer.rejected,
+        batch: answer.batch,
+        words: read_number(sheet, 0),
+        words_at: read_number(sheet, 4),
+        records: read_number(sheet, 8),
+        records_at: read_number(sheet, 12),
+        k: read_number(sheet, 16),
+        w: read_number(sheet, 20),
+    }
+}
+
+// The sample of a sound sheet, from start 0.
+fn sample_sheet(sheet: &[u8], slots: &mut [u32]) -> Answer
+    requires { ⌜ Sound (now sheet) ⌝ }
+    ensures answer { λ r. ⌜ r ≡ shown 0 (sample w64 (wordsOf (now (sheet .entry))) 0 (recordsOf (now (sheet .entry))) (numbers (now (sheet .entry)) .k) (length (now (slots .entry)))) ⌝ }
+    ensures slots { λ r. ⌜ now (slots .exit) ≡ left (now (slots .entry)) (sample w64 (wordsOf (now (sheet .entry))) 0 (recordsOf (now (sheet .entry))) (numbers (now (sheet .entry)) .k) (length (now (slots .entry)))) ⌝ }
+{
+    let m = read_number(sheet, 0) as usize;
+    let n = read_number(sheet, 8) as usize;
+    let k = read_number(sheet, 16) as usize;
+    let mut words = [0u64; SHEET_WORDS];
+    read_words(sheet, read_number(sheet, 4) as usize, m, &mut words);
+    let mut records = [0u32; SHEET_RECORDS];
+    read_records(sheet, read_number(sheet, 12) as usize, n, &mut records);
+    sample_records(&words[..m], 0, &records[..n], k, slots)
+}
+
+// A draw sheet, run: the sample that it asks for, into the first k of the lent slots; slots past k stay.
+//
+// The six numbers say where the words and the records lie and how many there are, and give k and w. The draw is the sample of the
+// records from start 0, and the six numbers come back with it: the first w slots are the early reviews, the others late. Refusals, the
+// lowest that applies: 1 the sheet is not sound, 3 k is 0 or above the count of records or w is above k, 6 fewer than k slots, 10 the
+// words end before some batch has one; the slots are then exactly what they were, and the six numbers are zeros. Each word and each
+// record of the sheet is copied once, and then sampled. The 52 bytes of the header 2, 24, 3, 40, 1, 1, the words 0, 1 and the records
+// 101, 205, 309 give 309: next is 2 and one word is rejected.
+pub fn run_sheet(sheet: &[u8], slots: &mut [u32]) -> Drawn
+    ensures answer { λ r. ⌜ r ≡ shownDrawn (now (sheet .entry)) (runSheet w64 (now (sheet .entry)) (length (now (slots .entry)))) ⌝ }
+    ensures slots { λ r. ⌜ now (slots .exit) ≡ left (now (slots .entry)) (runSheet w64 (now (sheet .entry)) (length (now (slots .entry)))) ⌝ }
+{
+    if !is_sound(sheet) {
+        return refused_drawn(refusal::SHEET, 0);
+    }
+    let n = read_number(sheet, 8);
+    let k = read_number(sheet, 16);
+    let w = read_number(sheet, 20);
+    if k < 1 {
+        return refused_drawn(refusal::SAMPLE, 0);
+    }
+    if n < k {
+        return refused_drawn(refusal::SAMPLE, 0);
+    }
+    if k < w {
+        return refused_drawn(refusal::SAMPLE, 0);
+    }
+    let answer = sample_sheet(sheet, slots);
+    if answer.no != 0 {
+        return refused_drawn(answer.no, answer.batch);
+    }
+    done_drawn(sheet, answer)
 }

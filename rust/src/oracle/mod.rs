@@ -6,12 +6,14 @@
 pub mod plan;
 pub mod reading;
 pub mod run;
+pub mod sheet;
 pub mod word;
 
-use crate::raw::{Answer, Batch, Behind};
+use crate::raw::{Answer, Batch, Behind, Drawn};
 use crate::refusal::Refusal;
 use plan::{cut, MAX_BATCH};
 use run::run;
+use sheet::Numbers;
 use word::{power, product, run_of_words, L};
 
 /// The most bounds in a list.
@@ -158,4 +160,25 @@ fn behind_order(order: &[u32], room: usize) -> Outcome<u64> {
         (Refusal::Order, !reading::is_order(order)),
     ])?;
     Ok(Done { values: reading::rolls_behind(order), next: 0, rejected: 0 })
+}
+
+/// Runs a draw sheet, with its sample in the lent list.
+pub fn run_sheet(sheet: &[u8], lent: &mut [u32]) -> Drawn {
+    let (numbers, outcome) = match drawn(sheet, lent.len()) {
+        Ok((numbers, done)) => (numbers, Ok(done)),
+        Err(refusal) => (Numbers::default(), Err(refusal)),
+    };
+    leave(&outcome, lent);
+    let Answer { no, next, rejected, batch } = shown(0, &outcome);
+    let Numbers { words, words_at, records, records_at, k, w } = numbers;
+    Drawn { no, next, rejected, batch, words, words_at, records, records_at, k, w }
+}
+
+fn drawn(sheet: &[u8], room: usize) -> Result<(Numbers, Done<u32>), Refusal> {
+    refuse(&[(Refusal::Sheet, !sheet::is_sound(sheet))])?;
+    let (numbers, words, records) = sheet::contents(sheet);
+    let k = numbers.k as usize;
+    refuse(&[(Refusal::Sample, k == 0 || k > records.len() || numbers.w > numbers.k), (Refusal::Room, room < k)])?;
+    let done = sampled(&words, 0, &records, k, room)?;
+    Ok((numbers, done))
 }

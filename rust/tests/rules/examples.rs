@@ -1,10 +1,12 @@
 //! The checked examples of document 01, with the values that stand there.
 
 use crate::support::{
-    batch_refused, behind, done, refused, roll_batch, roll_list, rolled, rolls_behind, sample, shuffle, words_behind,
-    Lent,
+    batch_refused, behind, done, refused, roll_batch, roll_list, rolled, rolls_behind, run_sheet, sample, shuffle,
+    words_behind, Lent,
 };
+use crate::{program, sheets};
 use hildrasp::oracle::{plan::cut, word};
+use hildrasp::raw::Drawn;
 
 #[test]
 fn at_four_bits_bounds_2_and_6_reject_0_4_8_12() {
@@ -103,4 +105,18 @@ fn a_sample_of_3_from_3_uses_no_word() {
 #[test]
 fn a_sample_of_0_from_0_is_refused_3() {
     assert_eq!(sample(&[], 0, &[], 0, 0), (refused(3, 0, 0), Lent::with_room(0)));
+}
+
+#[test]
+fn the_sheet_of_52_bytes_draws_record_309() {
+    let sheet = sheets::of_52_bytes();
+    let drawn =
+        Drawn { no: 0, next: 2, rejected: 1, batch: 0, words: 2, words_at: 24, records: 3, records_at: 40, k: 1, w: 1 };
+    assert_eq!(sheet.len(), 52);
+    assert_eq!(run_sheet(&sheet, 2), (drawn, Lent::holding(2, &[309])));
+}
+
+#[test]
+fn the_program_prints_two_lines_for_the_sheet_of_52_bytes() {
+    assert_eq!(program::prints(&sheets::of_52_bytes()), "draw 3 1 2 1\n1 309 early\n");
 }

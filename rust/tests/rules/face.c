@@ -62,5 +62,16 @@ int main(void)
     HOLDS(sampled.no == 0 && sampled.next == 2 && sampled.rejected == 1 && sampled.batch == 0);
     HOLDS(slots[0] == 309 && slots[1] == 9);
 
+    const uint8_t sheet[52] = {2,   0, 0, 0, 24, 0, 0, 0, 3, 0, 0, 0, 40, 0, 0, 0, 1, 0, 0, 0, 1, 0, 0, 0,
+                               0,   0, 0, 0, 0,  0, 0, 0, 1, 0, 0, 0, 0,  0, 0, 0,
+                               101, 0, 0, 0, 205, 0, 0, 0, 53, 1, 0, 0};
+    slots[0] = 9;
+    hildrasp_drawn drawn = hildrasp_run_sheet(sheet, 52, slots, 2);
+    HOLDS(drawn.no == 0 && drawn.next == 2 && drawn.rejected == 1 && drawn.batch == 0);
+    HOLDS(drawn.words == 2 && drawn.words_at == 24 && drawn.records == 3 && drawn.records_at == 40);
+    HOLDS(drawn.k == 1 && drawn.w == 1 && slots[0] == 309 && slots[1] == 9);
+    drawn = hildrasp_run_sheet(sheet, 51, slots, 2);
+    HOLDS(drawn.no == HILDRASP_SHEET && drawn.words == 0 && drawn.k == 0 && slots[0] == 309);
+
     return 0;
 }

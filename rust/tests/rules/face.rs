@@ -1,7 +1,8 @@
 //! The faces of the library: the safe Rust face gives each refusal its name, and the C header serves a C program.
 
+use crate::sheets;
 use crate::support::built_program;
-use hildrasp::{roll_batch, roll_list, rolls_behind, sample, shuffle, words_behind, Refusal, Used};
+use hildrasp::{roll_batch, roll_list, rolls_behind, run_sheet, sample, shuffle, words_behind, Refusal, Used};
 use std::env;
 use std::path::Path;
 use std::process::Command;
@@ -74,6 +75,15 @@ fn rolls_behind_an_order_can_meet_2_6_8() {
     assert_eq!(rolls_behind(&[0; 16_385], &mut [0; 16_384]), Err(Refusal::Count));
     assert_eq!(rolls_behind(&[2, 1, 0], &mut [0]), Err(Refusal::Room));
     assert_eq!(rolls_behind(&[2, 1, 1], &mut [0; 2]), Err(Refusal::Order));
+}
+
+#[test]
+fn a_sheet_can_meet_1_3_6_10() {
+    let sheet = |words: &[u64], k, w| sheets::laid_out(words, &[101, 205, 309], k, w, [0; 3], false);
+    assert_eq!(run_sheet(&[0; 23], &mut [0]), Err(Refusal::Sheet));
+    assert_eq!(run_sheet(&sheet(&[0, 1], 1, 2), &mut [0]), Err(Refusal::Sample));
+    assert_eq!(run_sheet(&sheet(&[0, 1], 1, 1), &mut []), Err(Refusal::Room));
+    assert_eq!(run_sheet(&sheet(&[0], 1, 1), &mut [0]), Err(Refusal::Words { batch: 0 }));
 }
 
 #[test]

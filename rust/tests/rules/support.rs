@@ -2,11 +2,11 @@
 //! comparison of the library's whole answer with the oracle's.
 
 use hildrasp::oracle::{self, plan::Plan, word};
-use hildrasp::raw::{self, Answer, Batch, Behind};
+use hildrasp::raw::{self, Answer, Batch, Behind, Drawn};
 use std::env;
-use std::fmt::{self, Debug};
 use std::path::Path;
 use std::process::Command;
+use std::fmt::{self, Debug};
 
 /// How many random cases to run, times the number in the environment variable `HILDRASP_CASES`.
 pub fn cases(default: usize) -> usize {
@@ -134,12 +134,12 @@ impl Generator {
         bounds
     }
 
-    /// Bounds that are powers of two, with product 2^`bits`.
+    /// Bounds that are powers of two, with product 2^`bits`, or less where one of them would pass 2^63.
     pub fn powers_of_two(&mut self, bits: u32) -> Vec<u64> {
-        let mut bounds = vec![1; self.between(2, 16)];
+        let mut bounds = vec![1_u64; self.between(2, 16)];
         for _ in 0..bits {
             let place = self.below(bounds.len());
-            bounds[place] = if bounds[place] < 1 << 63 { bounds[place] * 2 } else { bounds[place] };
+            bounds[place] = bounds[place].saturating_mul(2).min(1 << 63);
         }
         bounds
     }
@@ -306,6 +306,16 @@ pub fn words_behind(bounds: &[u64], rolls: &[u64]) -> Behind {
     answer
 }
 
+/// Runs a sheet by the library, and by the oracle with the same answer and the same slots.
+pub fn run_sheet(sheet: &[u8], room: usize) -> (Drawn, Lent<u32>) {
+    let (mut by_library, mut by_oracle) = (Lent::with_room(room), Lent::with_room(room));
+    let answer = raw::run_sheet(sheet, by_library.lend());
+    let wanted = oracle::run_sheet(sheet, by_oracle.lend());
+    assert_eq!(answer, wanted, "{} bytes {}, room {room}", sheet.len(), brief(sheet));
+    assert_eq!(by_library, by_oracle, "{} bytes {}, room {room}", sheet.len(), brief(sheet));
+    (answer, by_library)
+}
+
 // ---- Answers written out ----
 
 /// A batch that gave these rolls.
@@ -338,4 +348,9 @@ pub fn behind(first: u64, last: u64) -> Behind {
 /// A way back that was refused.
 pub fn behind_refused(no: u64) -> Behind {
     Behind { no, next: 0, rejected: 0, first: 0, last: 0 }
+}
+
+/// A sheet that was refused.
+pub fn sheet_refused(no: u64, batch: usize) -> Drawn {
+    Drawn { no, next: 0, rejected: 0, batch, words: 0, words_at: 0, records: 0, records_at: 0, k: 0, w: 0 }
 }

@@ -1,0 +1,108 @@
+-- A draw sheet, refusal by refusal. Assumes nothing.
+--
+--   area-count, area-of, sampled              the entries of an area in the front of an array, and their sample
+--   sheet-unsound, sheet-size, sheet-sample   the refusals 1 and 3, and then the sample
+--   no-slot, too-many, too-early, in-size     k and w out of range, or in it
+--   refused-drawn, drawn-refused, drawn-done  what the caller sees
+--   done-batch                                an answer that refuses nothing names no batch
+use mathlib.Core.Path.{_≡_, sym, ap, ap₂, _∙_}
+use mathlib.Core.Bool.{Bool, true, false, not, _||_, or-true}
+use mathlib.Core.List.{List, [], _++_}
+use Prim.Native.Nat.{ℕ, _<_, _≤_}
+use lib.Dec.{ltb}
+use lib.ListN.{length, take}
+use lib.Seq.{take-at}
+use borrow.Author.Tests.{lt-ltb, le-ltb}
+use Rattle.arithmetic.specs.Width.{w64}
+use Rattle.rolls.specs.Outcome.{Outcome, refused, done, no, outside, shown, left}
+use Rattle.rolls.specs.declared.answer.Answer.{Answer}
+use Rattle.rolls.proofs.Deciding.{decide-here, decide-past, decide-none, in-count, below-count, above-count}
+use Rattle.draws.specs.Operations.{sample}
+use Rattle.sheet.specs.Sheet.{numbers, entries, wordsOf, recordsOf, isSound}
+use Rattle.sheet.specs.Operations.{runSheet, shownDrawn}
+use Rattle.sheet.specs.declared.run.Drawn.{Drawn}
+use Rattle.sheet.proofs.Soundness.{entries-length}
+
+-- ---- an area, read into the front of an array
+
+module _ (size : ℕ) (s : List ℕ) (c at : ℕ) (last rest : List ℕ) (e : last ≡ entries size c at s ++ rest) where
+  area-back : take c last ≡ entries size c at s
+  area-back = ap (take c) e ∙ take-at (entries size c at s) rest c (entries-length size c at s)
+
+  pub area-count : c ≡ length (take c last)
+  area-count = sym (ap length area-back ∙ entries-length size c at s)
+
+  pub area-of : (count from : ℕ) → c ≡ count → at ≡ from → take c last ≡ entries size count from s
+  area-of count from f g = area-back ∙ ap₂ (λ (m n : ℕ). entries size m n s) f g
+
+-- the sample of the areas as they were read is that of the sheet
+pub sampled : (s : List ℕ) (room : ℕ) (before out : List ℕ) (a : Answer) (ws xs : List ℕ) (k : ℕ) → ws ≡ wordsOf s → xs ≡ recordsOf s → k ≡ numbers s .k
+    → (a ≡ shown 0 (sample w64 ws 0 xs k room)) × (out ≡ left before (sample w64 ws 0 xs k room))
+    → (a ≡ shown 0 (sample w64 (wordsOf s) 0 (recordsOf s) (numbers s .k) room)) × (out ≡ left before (sample w64 (wordsOf s) 0 (recordsOf s) (numbers s .k) room))
+sampled s room before out a ws xs k e f g v =
+    let o : sample w64 ws 0 xs k room ≡ sample w64 (wordsOf s) 0 (recordsOf s) (numbers s .k) room = cc in
+    (v .0 ∙ ap (shown 0) o, v .1 ∙ ap (left before) o)
+
+-- ---- k and w
+
+module _ (n k w : ℕ) where
+  abbrev pub misfit : Bool
+  misfit = outside 1 n k || ltb k w
+
+  pub no-slot : k < 1 → misfit ≡ true
+  no-slot h = ap (λ (b : Bool). b || ltb k w) (below-count 1 n k h)
+
+  pub too-many : n < k → misfit ≡ true
+  too-many h = ap (λ (b : Bool). b || ltb k w) (above-count 1 n k h)
+
+  pub too-early : k < w → misfit ≡ true
+  too-early h = ap (λ (b : Bool). outside 1 n k || b) (lt-ltb k w h) ∙ or-true (outside 1 n k)
+
+  pub in-size : 1 ≤ k → k ≤ n → w ≤ k → misfit ≡ false
+  in-size h i j = ap₂ _||_ (in-count 1 n k h i) (le-ltb k w j)
+
+-- ---- the refusals
+
+module _ (s : List ℕ) (room : ℕ) where
+  pub sheet-unsound : isSound s ≡ false → runSheet w64 s room ≡ refused 1 0
+  unfolding runSheet
+  sheet-unsound e = decide-here (no 1 (not (isSound s))) _ _ (ap not e)
+
+  module _ (sound : isSound s ≡ true) where
+    pub sheet-size : misfit (numbers s .records) (numbers s .k) (numbers s .w) ≡ true → runSheet w64 s room ≡ refused 3 0
+    unfolding runSheet
+    sheet-size e = decide-past (no 1 (not (isSound s))) _ _ (ap not sound) ∙ decide-here (no 3 (misfit (numbers s .records) (numbers s .k) (numbers s .w))) _ _ e
+
+    pub sheet-sample : misfit (numbers s .records) (numbers s .k) (numbers s .w) ≡ false
+        → runSheet w64 s room ≡ sample w64 (wordsOf s) 0 (recordsOf s) (numbers s .k) room
+    unfolding runSheet
+    sheet-sample e =
+        decide-past (no 1 (not (isSound s))) _ _ (ap not sound)
+        ∙ decide-past (no 3 (misfit (numbers s .records) (numbers s .k) (numbers s .w))) _ _ e ∙ decide-none _
+
+-- ---- what the caller sees
+
+pub refused-drawn : (s : List ℕ) (o : Outcome) (n batch : ℕ) (before : List ℕ) (d : Drawn) → o ≡ refused n batch → d ≡ shownDrawn [] (refused n batch)
+    → (d ≡ shownDrawn s o) × (before ≡ left before o)
+refused-drawn s o n batch before d e f = (f ∙ ap (shownDrawn s) (sym e), ap (left before) (sym e))
+
+-- of an outcome p, which is o, of which the answer a is shown; p is no refusal of number 0
+abbrev pub NoneIsZero : Outcome → Type 0
+NoneIsZero p = (n batch : ℕ) → p ≡ refused n batch → n ≡ 0 → ⊥
+
+pub done-batch : (p : Outcome) (a : Answer) (o : Outcome) → NoneIsZero p → p ≡ o → a ≡ shown 0 o → a .no ≡ 0 → a .batch ≡ 0
+done-batch p a (refused n batch) never e f h = absurd (never n batch e (sym (ap (λ (b : Answer). b .no) f) ∙ h))
+done-batch p a (done values to more) never e f h = ap (λ (b : Answer). b .batch) f
+
+module _ (s : List ℕ) (p : Outcome) (before out : List ℕ) (a : Answer) (d : Drawn) where
+  pub drawn-refused : (o : Outcome) → p ≡ o → (a ≡ shown 0 o) × (out ≡ left before o) → (a .no ≡ 0 → ⊥) → d ≡ shownDrawn [] (refused (a .no) (a .batch))
+      → (d ≡ shownDrawn s p) × (out ≡ left before p)
+  drawn-refused (refused n batch) e f h i =
+      (i ∙ ap (λ (b : Answer). shownDrawn [] (refused (b .no) (b .batch))) (f .0) ∙ ap (shownDrawn s) (sym e), f .1 ∙ ap (left before) (sym e))
+  drawn-refused (done values to more) e f h i = absurd (h (ap (λ (b : Answer). b .no) (f .0)))
+
+  pub drawn-done : (o : Outcome) → NoneIsZero p → p ≡ o → (a ≡ shown 0 o) × (out ≡ left before o) → a .no ≡ 0
+      → d ≡ shownDrawn s (done [] (a .next) (a .rejected)) → (d ≡ shownDrawn s p) × (out ≡ left before p)
+  drawn-done (refused n batch) never e f h i = absurd (never n batch e (sym (ap (λ (b : Answer). b .no) (f .0)) ∙ h))
+  drawn-done (done values to more) never e f h i =
+      (i ∙ ap (λ (b : Answer). shownDrawn s (done [] (b .next) (b .rejected))) (f .0) ∙ ap (shownDrawn s) (sym e), f .1 ∙ ap (left before) (sym e))

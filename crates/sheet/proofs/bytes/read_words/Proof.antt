@@ -1,0 +1,66 @@
+-- `sheet::bytes::read_words` meets its contract. The loop's invariant: the first i words are in the list, and the rest of it is as it
+-- was. The measure is what is left of the count. Assumes nothing.
+use Prim.Native.Nat.{_-_}
+use borrow.Author.Needs.{needs}
+use Rattle.sheet.proofs.Reading.{Filled, filled-none, filled-turn, filled-done}
+use Rattle.sheet.proofs.bytes.read_words.Statement.{statement}
+use Rattle.sheet.proofs.bytes.read_words.Tie as tie
+
+abbrev Inv-loop : tie.InvT-loop
+Inv-loop sheet at count words₀ i₀ words i = Filled 8 sheet at count words₀ words i
+
+abbrev μ-loop : tie.MeasureT-loop
+μ-loop sheet at count words₀ i₀ words i = count - i
+
+loop-holds : tie.Need-loop-holds Inv-loop μ-loop
+loop-holds c = filled-none 8 _ _ _ _
+
+mul-read-word : tie.Need-mul-read-word Inv-loop μ-loop
+mul-read-word c = search needs
+
+add-read-word : tie.Need-add-read-word Inv-loop μ-loop
+add-read-word c = search needs
+
+read-word-requires : tie.Need-read-word-requires Inv-loop μ-loop
+read-word-requires c κs = search needs
+
+mul-words : tie.Need-mul-words Inv-loop μ-loop
+mul-words c = search needs
+
+slice-write-words : tie.Need-slice-write-words Inv-loop μ-loop
+slice-write-words c = search needs
+
+add-i : tie.Need-add-i Inv-loop μ-loop
+add-i c = search needs
+
+loop-less : tie.Need-loop-less Inv-loop μ-loop
+loop-less c = search needs
+
+loop-again : tie.Need-loop-again Inv-loop μ-loop
+loop-again c =
+    let b = c .before .before in
+    filled-turn 8 _ _ _ _ _ _ (b .loop .inv) _ (search needs) (b .before .before .before .pre .1) (c .read-word .ensures)
+
+same-length : tie.Need-same-length Inv-loop μ-loop
+same-length c = search needs
+
+returns : tie.Need-returns Inv-loop μ-loop
+returns c = filled-done 8 _ _ _ _ _ _ (c .before .loop .inv) (search needs)
+
+pub read-words-spec : {M : Type 1} → statement M
+read-words-spec =
+    tie.close
+    (tie.spec
+    Inv-loop
+    μ-loop
+    loop-holds
+    mul-read-word
+    add-read-word
+    read-word-requires
+    mul-words
+    slice-write-words
+    add-i
+    loop-less
+    loop-again
+    same-length
+    returns)

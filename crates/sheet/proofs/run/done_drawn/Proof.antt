@@ -1,0 +1,37 @@
+-- `sheet::run::done_drawn` meets its contract: field by field, the numbers as they were read. Assumes nothing.
+use borrow.Author.Needs.{needs}
+use Rattle.sheet.proofs.run.done_drawn.Statement.{statement}
+use Rattle.sheet.proofs.run.done_drawn.Tie as tie
+
+read-number-requires : tie.Need-read-number-requires
+read-number-requires c κs = search needs
+
+read-number-requires-2 : tie.Need-read-number-requires-2
+read-number-requires-2 c κs = search needs
+
+read-number-requires-3 : tie.Need-read-number-requires-3
+read-number-requires-3 c κs = search needs
+
+read-number-requires-4 : tie.Need-read-number-requires-4
+read-number-requires-4 c κs = search needs
+
+read-number-requires-5 : tie.Need-read-number-requires-5
+read-number-requires-5 c κs = search needs
+
+read-number-requires-6 : tie.Need-read-number-requires-6
+read-number-requires-6 c κs = search needs
+
+returns : tie.Need-returns
+returns c = cc
+
+pub done-drawn-spec : {M : Type 1} → statement M
+done-drawn-spec =
+    tie.close
+    (tie.spec
+    read-number-requires
+    read-number-requires-2
+    read-number-requires-3
+    read-number-requires-4
+    read-number-requires-5
+    read-number-requires-6
+    returns)

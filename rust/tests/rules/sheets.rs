@@ -1,0 +1,118 @@
+//! Making sheets: laid out soundly, or written from any six numbers; at random, sound and damaged.
+
+use crate::support::Generator;
+use hildrasp::oracle::{plan, sheet::Numbers};
+
+/// What the gaps of a sheet are filled with.
+const GAP: u8 = 0xee;
+
+/// A sheet of this length with these six numbers, and with these words and records at the offsets that the numbers
+/// give. Bytes past the length are left out.
+pub fn written(length: usize, numbers: Numbers, words: &[u64], records: &[u32]) -> Vec<u8> {
+    let Numbers { words: count, words_at, records: of, records_at, k, w } = numbers;
+    let mut sheet = vec![GAP; length];
+    put(&mut sheet, 0, [count, words_at, of, records_at, k, w].iter().flat_map(|number| number.to_le_bytes()));
+    put(&mut sheet, words_at, words.iter().flat_map(|word| word.to_le_bytes()));
+    put(&mut sheet, records_at, records.iter().flat_map(|record| record.to_le_bytes()));
+    sheet
+}
+
+fn put(sheet: &mut [u8], at: u32, bytes: impl Iterator<Item = u8>) {
+    if let Some(from) = sheet.get_mut(at as usize..) {
+        from.iter_mut().zip(bytes).for_each(|(place, byte)| *place = byte);
+    }
+}
+
+/// A sheet with gaps of these sizes before, between and after its two areas, the words first or the records.
+pub fn laid_out(
+    words: &[u64],
+    records: &[u32],
+    k: u32,
+    w: u32,
+    [before, between, after]: [usize; 3],
+    records_first: bool,
+) -> Vec<u8> {
+    let first_at = 24 + before;
+    let (words_size, records_size) = (8 * words.len(), 4 * records.len());
+    let (words_at, records_at) = if records_first {
+        (first_at + records_size + between, first_at)
+    } else {
+        (first_at, first_at + words_size + between)
+    };
+    let numbers = Numbers {
+        words: words.len() as u32,
+        words_at: words_at as u32,
+        records: records.len() as u32,
+        records_at: records_at as u32,
+        k,
+        w,
+    };
+    written(first_at + words_size + between + records_size + after, numbers, words, records)
+}
+
+/// The sheet of document 01.
+pub fn of_52_bytes() -> Vec<u8> {
+    laid_out(&[0, 1], &[101, 205, 309], 1, 1, [0; 3], false)
+}
+
+/// A sheet made to be drawn from: words that suffice, at the edges of acceptance.
+pub fn sound(generator: &mut Generator) -> Vec<u8> {
+    let most = generator.one_of(&[5, 20, 20, 100, 100, 3000]);
+    let n = generator.between(1, most);
+    let most_k = generator.one_of(&[1, 5, n]).min(n);
+    let k = generator.between(1, most_k);
+    let w = generator.below(k + 1);
+    let records = generator.records(n);
+    let mut words = generator.words_for_plan(&plan::sample(n, k));
+    words.extend((0..generator.below(3)).map(|_| generator.word()));
+    let gaps = [0; 3].map(|_| generator.one_of(&[0, 0, 1, 3, 8, 50]));
+    let records_first = generator.once_in(2);
+    laid_out(&words, &records, k as u32, w as u32, gaps, records_first)
+}
+
+/// A sheet that was sound and then damaged in some way, which may have left it sound.
+pub fn damaged(generator: &mut Generator) -> Vec<u8> {
+    let mut sheet = sound(generator);
+    match generator.below(8) {
+        0 => sheet.truncate(generator.below(sheet.len() + 1)),
+        1 => {
+            let longer = sheet.len() + generator.one_of(&[1, 100, 65_535, 65_536]);
+            let length = generator.one_of(&[longer, 65_535, 65_536]);
+            sheet.resize(length, GAP);
+        }
+        2 => {
+            let place = generator.below(sheet.len());
+            sheet[place] ^= 1 << generator.below(8);
+        }
+        3 | 4 => {
+            // One of the six numbers moves a little: an area grows, shrinks or shifts, or k or w passes its limit.
+            let field = 4 * generator.below(6);
+            let step = generator.one_of(&[1, 1, 2, 4, 8, u32::MAX, u32::MAX, u32::MAX - 3, u32::MAX - 7]);
+            change_number(&mut sheet, field, |number| number.wrapping_add(step));
+        }
+        5 => {
+            let field = 4 * generator.below(6);
+            let length = sheet.len() as u32;
+            let far = [0, 1, 23, 24, length - 1, length, length + 1, 1 << 29, 1 << 30, 1 << 31, u32::MAX - 7, u32::MAX];
+            let other = generator.one_of(&far);
+            change_number(&mut sheet, field, |_| other);
+        }
+        6 => {
+            // Fewer words than the draw needs.
+            let fewer = generator.below(4) as u32;
+            change_number(&mut sheet, 0, |words| words.min(fewer));
+        }
+        _ => (0..3).for_each(|_| {
+            let place = generator.below(sheet.len().min(24));
+            sheet[place] = generator.word() as u8;
+        }),
+    }
+    sheet
+}
+
+/// Changes the number that starts at this byte.
+pub fn change_number(sheet: &mut [u8], field: usize, change: impl Fn(u32) -> u32) {
+    let bytes = &mut sheet[field..field + 4];
+    let number = u32::from_le_bytes([bytes[0], bytes[1], bytes[2], bytes[3]]);
+    bytes.copy_from_slice(&change(number).to_le_bytes());
+}
