@@ -1,74 +1,113 @@
 -- Demand 1, operation by operation: each outcome is decided by the list that the statement names. On a sheet the refusals 2 and 9 of the
 -- sample cannot be met, since a sound sheet has room for 16,377 records at most and the start is 0. Assumes nothing.
 use mathlib.Core.Path.{_≡_, refl, sym, ap, _∙_}
+use mathlib.Core.Logic.{_↔_}
 use mathlib.Core.Bool.{Bool, true, false, not, _&&_, _||_}
 use mathlib.Core.List.{List, [], _∷_}
-use Prim.Native.Nat.{ℕ, zero, suc, _+_, _-_, _*_, _^_, _<_, _≤_, zero-le, min, max}
+use Prim.Native.Nat.{ℕ, zero, suc, _+_, _<_, _≤_, zero-le, min, max}
 use native.Mathlib.Numerals.{add-one}
 use native.Mathlib.Omega.{arith}
-use lib.Dec.{T, ltb, leb}
+use lib.Dec.{T, ltb, leb, leb→le, le→leb, ltb→lt, nltb→le, not-T}
 use lib.ListN.{length, take, drop}
-use borrow.Author.Tests.{le-ltb, ltb-false, leb-true, not-true, not-false}
+use borrow.Author.Tests.{le-ltb, ltb-false, not-true, not-false}
 use Rattle.arithmetic.specs.Rolls.{accepted}
 use Rattle.arithmetic.specs.Width.{w64}
 use Rattle.rolls.specs.Run.{Found, found, missing, find, Run, run, runFrom, ran, short, after, trace, rollsOf}
 use Rattle.rolls.specs.Inner.{suffices}
-use Rattle.rolls.specs.Outcome.{Outcome, refused, done, Refusal, no, noWord, decide, used, outside, shownBatch, shownBehind, left}
+use Rattle.rolls.specs.Outcome.{Outcome, done, Refusal, no, noWord, decide, used, outside, shownBatch, shownBehind, left}
 use Rattle.rolls.specs.Operations.{rollBatch, rollList, wordsBehind}
-use Rattle.rolls.proofs.Deciding.{decide-here, decide-past, decide-none, in-count}
+use Rattle.rolls.proofs.Deciding.{decide-past, decide-none, in-count}
 use Rattle.rolls.proofs.Running.{run-hit, run-missing}
 use Rattle.draws.specs.Sample.{reservoir}
 use Rattle.draws.specs.Operations.{shuffle, sample, rollsBehind}
-use Rattle.sheet.specs.Sheet.{numbers, entries, wordsOf, recordsOf, wordsEnd, recordsEnd, isSound, Numbers}
+use Rattle.sheet.specs.Sheet.{numbers, entries, wordsOf, recordsOf, wordsEnd, recordsEnd, Sound, isSound, Numbers}
 use Rattle.sheet.specs.Operations.{runSheet, shownDrawn}
 use Rattle.rolls.specs.declared.answer.Answer.{Answer}
 use Rattle.rolls.specs.declared.answer.Batch.{Batch}
 use Rattle.rolls.specs.declared.answer.Behind.{Behind}
 use Rattle.sheet.specs.declared.run.Drawn.{Drawn}
 use Rattle.promises.specs.Contracts.{seen}
-use Rattle.promises.specs.Demand1.{samplePlan, ofWords, batchRefusals, listRefusals, shuffleRefusals, sampleRefusals, behindRefusals, orderRefusals, sheetRefusals, batchSaying, answerSaying, behindSaying, drawnSaying, AsRefused, Demand1}
-use Rattle.promises.proofs.Refusing.{as-refused, decide-under}
+use Rattle.promises.specs.Demand1.{samplePlan, batchRefusals, listRefusals, shuffleRefusals, sampleRefusals, behindRefusals}
+use Rattle.promises.specs.Demand1.{orderRefusals, sheetRefusals, batchSaying, answerSaying, behindSaying, drawnSaying, AsRefused, Demand1}
+use Rattle.promises.proofs.Refusing.{truth, as-refused, decide-under}
 
--- ---- the refusals of a sheet
+-- ---- when a sheet is sound, and its refusals
+
+pub neither : (a b : Bool) → (a || b) ≡ false → (a ≡ false) × (b ≡ false)
+neither true b e = (e, cc)
+neither false b e = (refl, e)
 
 entries-length : (size c at : ℕ) (s : List ℕ) → length (entries size c at s) ≡ c
 unfolding entries
 entries-length size zero at s = refl
 entries-length size (suc c) at s = ap suc (entries-length size c (at + size) s)
 
-both : (a b : Bool) → (a && b) ≡ true → (a ≡ true) × (b ≡ true)
-both true b e = (refl, e)
-both false b e = (e, cc)
+both : (a b : Bool) → T (a && b) ↔ (T a × T b)
+both true b = (λ t. (tt, t), λ t. t .1)
+both false b = (λ t. absurd t, λ t. absurd (t .0))
 
-neither : (a b : Bool) → (a || b) ≡ false → (a ≡ false) × (b ≡ false)
-neither true b e = (e, cc)
-neither false b e = (refl, e)
+within : (low high n : ℕ) → T (not (outside low high n)) ↔ ((low ≤ n) × (n ≤ high))
+within low high n = (
+  λ t. let (e, f) = neither (ltb n low) (ltb high n) (not-true _ (truth _ t)) in (ltb-false n low e, ltb-false high n f),
+  λ (h, k). rw (in-count low high n h k) tt,
+)
+
+-- two areas share a byte exactly where the later start is before the earlier end
+apart : (a b c d : ℕ) → T (not (ltb (max a b) (min c d))) ↔ ((byte : ℕ) → (a ≤ byte) × (byte < c) → (b ≤ byte) × (byte < d) → ⊥)
+apart a b c d = (
+  λ t byte h k. let l = nltb→le (max a b) (min c d) t in omega arith,
+  λ f. not-T (ltb (max a b) (min c d)) (λ t. let l = ltb→lt (max a b) (min c d) t in f (max a b) (omega arith) (omega arith)),
+)
+
+sound : (s : List ℕ) → T (isSound s) ↔ Sound s
+sound s =
+    let h : Numbers = numbers s in
+    let a : Bool = not (outside 24 65535 (length s)) in
+    let b : Bool = leb 24 (h .wordsAt) in
+    let c : Bool = leb 24 (h .recordsAt) in
+    let d : Bool = leb (wordsEnd h) (length s) in
+    let e : Bool = leb (recordsEnd h) (length s) in
+    let f : Bool = not (ltb (max (h .wordsAt) (h .recordsAt)) (min (wordsEnd h) (recordsEnd h))) in
+    let none-shared = apart (h .wordsAt) (h .recordsAt) (wordsEnd h) (recordsEnd h) in (
+      λ t.
+          let (u, x) = both (a && b && c && d && e) f .0 t in
+          let (v, y) = both (a && b && c && d) e .0 u in
+          let (w, z) = both (a && b && c) d .0 v in
+          let (p, q) = both (a && b) c .0 w in
+          let (m, n) = both a b .0 p in
+          record {
+            allowed = within 24 65535 (length s) .0 m;
+            offsets = (leb→le 24 (h .wordsAt) n, leb→le 24 (h .recordsAt) q);
+            within = (leb→le (wordsEnd h) (length s) z, leb→le (recordsEnd h) (length s) y);
+            apart = none-shared .0 x;
+          },
+      λ r.
+          both (a && b && c && d && e) f .1 (
+            both (a && b && c && d) e .1 (
+              both (a && b && c) d .1 (
+                both (a && b) c .1 (
+                  both a b .1
+                      (within 24 65535 (length s) .1 (r .allowed), le→leb 24 (h .wordsAt) (r .offsets .0)),
+                  le→leb 24 (h .recordsAt) (r .offsets .1),
+                ),
+                le→leb (wordsEnd h) (length s) (r .within .0),
+              ),
+              le→leb (recordsEnd h) (length s) (r .within .1),
+            ),
+            none-shared .1 (r .apart),
+          ),
+    )
 
 -- (65,535 - 24) / 4 records at most
 few-records : (s : List ℕ) → isSound s ≡ true → numbers s .records ≤ 16384
-few-records s e =
-    let h : Numbers = numbers s in
-    let areas : Bool = leb (wordsEnd h) (length s) in
-    let apart : Bool = not (ltb (max (h .wordsAt) (h .recordsAt)) (min (wordsEnd h) (recordsEnd h))) in
-    let t = parts (not (outside 24 65535 (length s))) (leb 24 (h .wordsAt)) (leb 24 (h .recordsAt)) areas (leb (recordsEnd h) (length s)) apart e in
-    let far = leb-true 24 (h .recordsAt) (t .1) in
-    let within = leb-true (recordsEnd h) (length s) (t .2) in
-    let long = ltb-false 65535 (length s) (neither (ltb (length s) 24) (ltb 65535 (length s)) (not-true _ (t .0)) .1) in
-    omega arith
-  where
-    parts : (a b c d e f : Bool) → (a && b && c && d && e && f) ≡ true → (a ≡ true) × (c ≡ true) × (e ≡ true)
-    parts a b c d e f t =
-        let p = both (a && b && c && d && e) f t in
-        let q = both (a && b && c && d) e (p .0) in
-        let r = both (a && b) c (both (a && b && c) d (q .0) .0) in
-        (both a b (r .0) .0, r .1, q .1)
+few-records s e = let r = sound s .0 (rw e tt) in omega (arith, r .allowed, r .offsets, r .within)
 
 -- the sample from start 0, where its numbers 2 and 3 do not apply
 module _ (words xs : List ℕ) (k room n : ℕ) where
-  ran-sample : Run
+  unfoldable pub ran-sample : Run
   ran-sample = run 64 (samplePlan n k) words 0
 
-  drawn : Outcome
+  unfoldable pub drawn : Outcome
   drawn = used 0 ran-sample (reservoir (take k xs) (drop k xs) (rollsOf 64 (samplePlan n k) (trace ran-sample)))
 
   sample-rest : length xs ≡ n → n ≤ 16384 → outside 1 n k ≡ false
@@ -76,16 +115,27 @@ module _ (words xs : List ℕ) (k room n : ℕ) where
   unfolding sample ran-sample drawn
   sample-rest e h f =
       let o : Outcome = drawn in
-      let words-end : decide (no 9 (ltb (length words) 0) ∷ noWord ran-sample ∷ []) o ≡ decide (noWord ran-sample ∷ []) o = decide-past _ _ o (le-ltb (length words) 0 zero-le) in
+      let words-end : decide (no 9 (ltb (length words) 0) ∷ noWord ran-sample ∷ []) o ≡ decide (noWord ran-sample ∷ []) o =
+      decide-past _ _ o (le-ltb (length words) 0 zero-le) in
       rw e (decide-past _ _ o (in-count 0 16384 n zero-le h) ∙ decide-past _ _ o f ∙ decide-under (no 6 (ltb room k)) _ _ o o (λ x. words-end))
 
-sheet-decides : (s : List ℕ) (room : ℕ)
-    → runSheet w64 s room ≡ decide (sheetRefusals s room) (drawn (wordsOf s) (recordsOf s) (numbers s .k) room (numbers s .records))
-unfolding runSheet ran-sample
+-- what a sheet draws
+abbrev pub sheetDrawn : List ℕ → ℕ → Outcome
+sheetDrawn s room = drawn (wordsOf s) (recordsOf s) (numbers s .k) room (numbers s .records)
+
+pub sheet-sample : (s : List ℕ) (room : ℕ) → isSound s ≡ true → outside 1 (numbers s .records) (numbers s .k) ≡ false
+    → sample w64 (wordsOf s) 0 (recordsOf s) (numbers s .k) room
+    ≡ decide (no 6 (ltb room (numbers s .k)) ∷ noWord (run 64 (samplePlan (numbers s .records) (numbers s .k)) (wordsOf s) 0) ∷ []) (sheetDrawn s room)
+unfolding ran-sample
+sheet-sample s room sound size =
+    sample-rest (wordsOf s) (recordsOf s) (numbers s .k) room (numbers s .records)
+    (entries-length 4 (numbers s .records) (numbers s .recordsAt) s) (few-records s sound) size
+
+pub sheet-decides : (s : List ℕ) (room : ℕ) → runSheet w64 s room ≡ decide (sheetRefusals s room) (sheetDrawn s room)
+unfolding runSheet
 sheet-decides s room =
     decide-under _ _ _ _ _ (λ sound. decide-under _ _ _ _ _ (λ size. decide-none _
-    ∙ sample-rest (wordsOf s) (recordsOf s) (numbers s .k) room (numbers s .records) (entries-length 4 (numbers s .records) (numbers s .recordsAt) s)
-    (few-records s (not-false (isSound s) sound)) (neither _ _ size .0)))
+    ∙ sheet-sample s room (not-false (isSound s) sound) (neither _ _ size .0)))
 
 -- ---- the batch that number 10 names
 
@@ -115,7 +165,8 @@ module _ (L : ℕ) (words : List ℕ) where
             with-it = ap suffices (run-missing L bs [] words start batch f);
           }
       go (found t) f ih =
-          let g = ih (t .place + 1) (batch + 1) k (inner (runFrom L plan words (t .place + 1) (batch + 1)) (sym (run-hit L bs plan words start batch f) ∙ e)) in
+          let rest : Run = runFrom L plan words (t .place + 1) (batch + 1) in
+          let g = ih (t .place + 1) (batch + 1) k (inner rest (sym (run-hit L bs plan words start batch f) ∙ e)) in
           record {
             place = suc (g .place);
             named = omega (arith, g .named);
@@ -159,16 +210,21 @@ beside start lent refusals values next rejected got e =
 pub demand1 : Demand1
 demand1 = record {
   roll-batch = λ op m words start bs. unfold rollBatch in
-      as-refused (shownBatch start) (λ (a : Batch). a .no) (batchSaying start) (λ r. refl) (λ r. refl) _ refl (batchRefusals words start bs) (op words start bs) (m words start bs);
-  roll-list = λ op m words start bs lent. unfold rollList in beside start lent (listRefusals words start bs (length lent)) _ _ _ (op words start bs lent) (m words start bs lent);
+      as-refused (shownBatch start) (λ (a : Batch). a .no) (batchSaying start) (λ r. refl) (λ r. refl) _ refl
+      (batchRefusals words start bs) (op words start bs) (m words start bs);
+  roll-list = λ op m words start bs lent. unfold rollList in
+      beside start lent (listRefusals words start bs (length lent)) _ _ _ (op words start bs lent) (m words start bs lent);
   words-behind = λ op m bs rs. unfold wordsBehind in
       as-refused shownBehind (λ (a : Behind). a .no) behindSaying (λ r. refl) (λ r. refl) _ refl (behindRefusals bs rs) (op bs rs) (m bs rs);
-  shuffle = λ op m words start xs. unfold shuffle in beside start xs (shuffleRefusals words start (length xs)) _ _ _ (op words start xs) (m words start xs);
+  shuffle = λ op m words start xs. unfold shuffle in
+      beside start xs (shuffleRefusals words start (length xs)) _ _ _ (op words start xs) (m words start xs);
   sample = λ op m words start xs k lent. unfold sample in
       beside start lent (sampleRefusals words start (length xs) k (length lent)) _ _ _ (op words start xs k lent) (m words start xs k lent);
   rolls-behind = λ op m ys lent. unfold rollsBehind in beside 0 lent (orderRefusals ys (length lent)) _ _ _ (op ys lent) (m ys lent);
   run-sheet = λ op m s lent. unfold drawn in
-      as-refused (drawnBeside s lent) (λ (got : Drawn × List ℕ). got .0 .no) (drawnSaying lent) (λ r. refl) (λ r. refl) _ refl (sheetRefusals s (length lent)) (op s lent)
+      as-refused (drawnBeside s lent) (λ (got : Drawn × List ℕ). got .0 .no) (drawnSaying lent) (λ r. refl) (λ r. refl) _ refl
+      (sheetRefusals s (length lent)) (op s lent)
       (m s lent ∙ ap (drawnBeside s lent) (sheet-decides s (length lent)));
   first-short = first-short;
+  sound = sound;
 }

@@ -1,31 +1,31 @@
 -- Demand 2, operation by operation. Where no refusal applies the words suffice for the plan, and the run follows the paper's method.
 -- Assumes nothing.
-use mathlib.Core.Path.{_≡_, refl, sym, ap, ap₂, _∙_, subst}
+use mathlib.Core.Path.{_≡_, refl, sym, ap, _∙_}
 use mathlib.Core.Logic.{_↔_}
-use mathlib.Core.Bool.{Bool, true, false, not, _||_}
+use mathlib.Core.Bool.{false}
 use mathlib.Core.List.{List, [], _∷_, _++_, append-nil}
-use Prim.Native.Nat.{ℕ, _+_, _-_, _^_, _<_, _≤_}
+use Prim.Native.Nat.{ℕ, _-_, _^_, _≤_}
 use native.Mathlib.Nat.{le-refl}
 use native.Mathlib.Omega.{arith}
 use lib.Dec.{T, ltb, lit≤}
-use lib.ListN.{length, take, drop, getD, replicate}
+use lib.ListN.{length, take, drop, replicate}
 use borrow.Author.Tests.{ltb-false, not-false}
 use Rattle.arithmetic.specs.Rolls.{product, accepted, inRange}
 use Rattle.arithmetic.specs.Products.{hasZero}
 use Rattle.arithmetic.specs.Width.{w64, size64}
-use Rattle.arithmetic.proofs.Limits.{or-left, or-right, zero-nowhere, product-pos}
+use Rattle.arithmetic.proofs.Limits.{or-right, zero-nowhere, product-pos}
 use Rattle.arithmetic.proofs.Words.{words-behind}
 use Rattle.rolls.specs.Run.{Run, ran, short, run, trace, rollsOf, next, rejected}
 use Rattle.rolls.specs.Cut.{cut}
 use Rattle.rolls.specs.Inner.{suffices}
-use Rattle.rolls.specs.Outcome.{Outcome, done, noWord, used, outside, shownBatch, left}
+use Rattle.rolls.specs.Outcome.{Outcome, done, noWord, used, outside, shownBatch}
 use Rattle.rolls.specs.Operations.{rollBatch, rollList}
 use Rattle.rolls.proofs.OneBatch.{some-bounds, few-bounds}
 use Rattle.rolls.proofs.Radix.{range-length, range-true}
 use Rattle.draws.specs.Shuffle.{shuffleWith, shuffleBounds, shufflePlan}
 use Rattle.draws.specs.Sample.{countup, reservoir}
 use Rattle.draws.specs.Order.{isOrder, rollsInto, AllBelow}
-use Rattle.draws.specs.Plan.{joined, Rollable, RollablePlan, PlanOf}
+use Rattle.draws.specs.Plan.{joined, Rollable, RollablePlan}
 use Rattle.draws.specs.Operations.{shuffle, sample}
 use Rattle.draws.proofs.Plans.{shuffle-plan64, cut-plan, sample-plan, shuffle-bounds-length}
 use Rattle.draws.proofs.Orders.{length-shuffle}
@@ -33,14 +33,16 @@ use Rattle.draws.proofs.Each.{rolls-behind}
 use Rattle.draws.proofs.OneSample.{sample-length}
 use Rattle.draws.proofs.OneShuffle.{whole-list}
 use Rattle.draws.proofs.Reach.{rolled-in-range}
-use Rattle.rolls.specs.declared.answer.Answer.{Answer}
+use Rattle.sheet.specs.Sheet.{numbers, wordsOf, recordsOf, isSound}
+use Rattle.sheet.specs.Operations.{runSheet}
 use Rattle.rolls.specs.declared.answer.Batch.{Batch}
-use Rattle.promises.specs.Contracts.{WordsBehind, RollsBehind, seen, MeetsBehind, MeetsOrder}
-use Rattle.promises.specs.Demand1.{samplePlan, ofWords, batchRefusals, listRefusals, shuffleRefusals, sampleRefusals, behindRefusals, orderRefusals}
-use Rattle.promises.specs.Demand2.{Allowed, Lemire, Demand2Batch, Demand2List, Demand2Shuffle, Demand2Sample, Demand2Behind, Demand2Order, Demand2}
-use Rattle.promises.proofs.Refusing.{allowed-cons, allowed-done}
-use Rattle.promises.proofs.Naming.{truth, plan-fits, order-done, runOf, run-named, run-full}
-use Rattle.promises.proofs.Lemire.{gives-iff, Ran, RanAs, follows-run, run-follows}
+use Rattle.promises.specs.Contracts.{WordsBehind, Sample, RollsBehind, RunSheet, seen, MeetsBehind, MeetsSample, MeetsOrder, MeetsSheet}
+use Rattle.promises.specs.Demand1.{sheetRefusals, samplePlan, ofWords, batchRefusals, listRefusals, shuffleRefusals, sampleRefusals}
+use Rattle.promises.specs.Demand2.{Allowed, Lemire, Demand2Sheet, Demand2Behind, Demand2Order, Demand2}
+use Rattle.promises.proofs.Refusing.{truth, allowed-cons, allowed-done}
+use Rattle.promises.proofs.Naming.{plan-fits, order-done, run-named, run-full}
+use Rattle.promises.proofs.Demand1.{neither, drawn, sheetDrawn, sheet-sample, sheet-decides}
+use Rattle.promises.proofs.Lemire.{gives-iff, RanAs, follows-run, run-follows}
 
 -- ---- the words of a plan
 
@@ -143,6 +145,20 @@ sample-meets words start xs k lent w a =
     let n = sample-length xs rs k (ltb-false (length xs) k (or-right (ltb k 1) (ltb (length xs) k) size)) in
     rw (allowed-done _ _ a) (refl, by-lemire plan words start d (good .rollable) w _ (rw n refl))
 
+-- ---- a sheet
+
+sheet-meets : (op : RunSheet) (draw : Sample) → MeetsSheet op → MeetsSample draw → Demand2Sheet op draw
+unfolding drawn
+sheet-meets op draw m n s lent a =
+    let (sound, b) = allowed-cons _ _ a in
+    let (size, c) = allowed-cons _ _ b in
+    let room : ℕ = length lent in
+    let o : Outcome = sheetDrawn s room in
+    let run : runSheet w64 s room ≡ o = sheet-decides s room ∙ allowed-done (sheetRefusals s room) o a in
+    let drew : sample w64 (wordsOf s) 0 (recordsOf s) (numbers s .k) room ≡ o =
+    sheet-sample s room (not-false (isSound s) sound) (neither _ _ size .0) ∙ allowed-done _ o c in
+    rw (m s lent, n (wordsOf s) 0 (recordsOf s) (numbers s .k) lent, run, drew) (refl, refl, refl, refl, refl, refl)
+
 -- ---- the way back
 
 behind-meets : (op : WordsBehind) → MeetsBehind op → Demand2Behind op
@@ -173,6 +189,22 @@ order-meets op m ys lent a =
 
 -- ---- one outcome
 
+words-suffice : (plan : List (List ℕ)) (words : List ℕ) → RollablePlan (2 ^ 64) plan → AllBelow (2 ^ 64) words
+    → (start : ℕ) → start ≤ length words
+    → T (suffices (run 64 plan words start)) ↔ ((next rejected : ℕ) × Lemire plan words start next rejected (λ rs. Unit))
+words-suffice plan words g w start h = (to (run 64 plan words start) (follows-run words w plan start 0 g h), from)
+  where
+    to : (r : Run) → RanAs plan words start r → T (suffices r) → (next rejected : ℕ) × Lemire plan words start next rejected (λ rs. Unit)
+    to (ran ts) f t = (
+      next start ts,
+      rejected start ts,
+      record { places = f .places; rolls = rollsOf 64 plan ts; follows = f .follows; used = f .used; reading = tt },
+    )
+    to (short k) f t = absurd t
+
+    from : (next rejected : ℕ) × Lemire plan words start next rejected (λ rs. Unit) → T (suffices (run 64 plan words start))
+    from (n, r, a) = rw (run-follows words w plan start n 0 (a .places) (a .rolls) g (a .follows) .runs) tt
+
 pub one-outcome : (plan : List (List ℕ)) (words : List ℕ) → RollablePlan (2 ^ 64) plan → AllBelow (2 ^ 64) words → (start m n r s : ℕ) (xs ys : List ℕ)
     → Lemire plan words start m r (λ rs. rs ≡ xs) → Lemire plan words start n s (λ rs. rs ≡ ys) → (m ≡ n) × (r ≡ s) × (xs ≡ ys)
 one-outcome plan words g w start m n r s xs ys a b =
@@ -188,9 +220,12 @@ demand2 = record {
   roll-list = λ op m words start bs lent w b a. rw (m words start bs lent) (list-meets words start bs lent w b a);
   shuffle = λ op m words start xs w a. rw (m words start xs) (shuffle-meets words start xs w a);
   sample = λ op m words start xs k lent w a. rw (m words start xs k lent) (sample-meets words start xs k lent w a);
+  run-sheet = sheet-meets;
   words-behind = behind-meets;
   rolls-behind = order-meets;
+  list-bounds = cut-plan (2 ^ 56) (2 ^ 64) (lit≤ tt);
   shuffle-bounds = shuffle-plan64;
   sample-bounds = λ n k h. sample-plan (2 ^ 56) (2 ^ 56) (le-refl (2 ^ 56)) n k (omega arith);
+  words-suffice = words-suffice;
   one-outcome = one-outcome;
 }

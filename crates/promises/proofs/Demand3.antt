@@ -8,10 +8,10 @@
 use mathlib.Core.Path.{_≡_, refl, sym, ap, _∙_}
 use mathlib.Core.Logic.{_↔_}
 use mathlib.Core.List.{List, [], _∷_}
-use Prim.Native.Nat.{ℕ, _^_, _<_, _≤_, zero-le}
+use Prim.Native.Nat.{ℕ, _-_, _^_, _<_, _≤_, zero-le}
 use native.Mathlib.Omega.{arith}
 use lib.Dec.{T}
-use lib.ListN.{length, getD}
+use lib.ListN.{length, getD, replicate}
 use lib.Seq.{ext-getD}
 use borrow.Author.Tests.{le-ltb}
 use Rattle.arithmetic.specs.Rolls.{inRange}
@@ -19,7 +19,6 @@ use Rattle.arithmetic.specs.Width.{w64, size64}
 use Rattle.rolls.specs.Run.{Run, ran, short}
 use Rattle.rolls.specs.Inner.{suffices}
 use Rattle.rolls.specs.Outcome.{decide, noWord, used}
-use Rattle.rolls.proofs.Deciding.{decide-past, in-count}
 use Rattle.draws.specs.Shuffle.{shuffleWith, shufflePlan}
 use Rattle.draws.specs.Order.{AllBelow, Distinct, Reorders, placeOf, rollsInto}
 use Rattle.draws.specs.Sample.{countup}
@@ -33,7 +32,8 @@ use Rattle.draws.proofs.Reach.{shuffleRun, shuffleRolls, shuffle-gives, shuffle
 use Rattle.rolls.specs.declared.answer.Answer.{Answer}
 use Rattle.rolls.specs.declared.answer.Behind.{Behind}
 use Rattle.promises.specs.Contracts.{Shuffle, RollsBehind, WordsBehind, seen, MeetsOrder, MeetsBehind}
-use Rattle.promises.specs.Demand3.{rollsNamed, runsNamed, FullRuns, EachInRun, Produces, Demand3At, HoldsDemand3, OwnPlaces, places}
+use Rattle.promises.specs.Demand3.{Paired, places, runsNamed, InRun, Produces, Demand3At, HoldsDemand3, OwnPlaces}
+use Rattle.promises.specs.Demand2.{FullRun}
 use Rattle.promises.proofs.Naming.{plan-fits, places-length, places-at, rolls-named, runs-full, runs-in}
 
 -- the shuffle of the definitions, which meets the contract
@@ -55,21 +55,25 @@ pub model-produces : (words xs ys : List ℕ) → length xs ≤ 16384
 unfolding shuffle decide
 model-produces words xs ys h =
     rw (le-ltb (length xs) 0 zero-le, le-ltb 16384 (length xs) h, le-ltb (length words) 0 zero-le)
-    (holds-run (shuffleRun w64 words 0 xs) (shuffleWith (length xs) (shuffleRolls w64 words 0 xs) xs) xs ys (length-shuffle (length xs) (shuffleRolls w64 words 0 xs) xs))
+    (holds-run (shuffleRun w64 words 0 xs) (shuffleWith (length xs) (shuffleRolls w64 words 0 xs) xs) xs ys
+    (length-shuffle (length xs) (shuffleRolls w64 words 0 xs) xs))
 
 module _ (op : Shuffle) (rolls : RollsBehind) (behind : WordsBehind) (o : MeetsOrder rolls) (b : MeetsBehind behind) where
   for-order : (xs ys : List ℕ) → length xs ≤ 16384 → Distinct xs → Reorders xs ys
       → ((words : List ℕ) → AllBelow (2 ^ 64) words → Produces op words xs ys ↔ Produces model words xs ys)
       → let plan : List (List ℕ) = shufflePlan size64 (length xs) in
-      let runs : List Behind = runsNamed behind plan (rollsNamed rolls xs ys) in
-      FullRuns plan runs
-      × ((words : List ℕ) → length words ≡ length plan → AllBelow (2 ^ 64) words → Produces op words xs ys ↔ EachInRun runs words)
+      let (answer, rs) = rolls (places xs ys) (replicate (length xs - 1) 0) in
+      let runs : List Behind = runsNamed behind plan rs in
+      (answer .no ≡ 0)
+      × Paired FullRun plan runs
+      × ((words : List ℕ) → length words ≡ length plan → AllBelow (2 ^ 64) words → Produces op words xs ys ↔ Paired InRun runs words)
   for-order xs ys h d r same =
       let plan : List (List ℕ) = shufflePlan size64 (length xs) in
       let rs : List ℕ = rollsInto (length xs) xs ys in
       let good = plan-fits (length xs) h in
       let range : T (inRange (joined plan) rs) = rw (good .same) (one-series xs ys d r .in-range) in
       rw (rolls-named xs ys d r rolls o h) (
+        refl,
         runs-full behind b plan rs (good .rollable) range,
         λ words n w.
             let produces = same words w in

@@ -5,26 +5,23 @@
 --   mixed s n          s rolls of 0, and then the rolls that exchange each record with itself
 --   fails-from-eight   demand 3 fails from 8 records on
 --   holds-to-seven     and holds up to 7
-use mathlib.Core.Path.{_≡_, refl, sym, ap, _∙_, subst}
-use mathlib.Core.Logic.{_↔_}
+use mathlib.Core.Path.{_≡_, refl, sym, ap, _∙_}
 use mathlib.Core.Bool.{Bool, true, false}
 use mathlib.Core.List.{List, [], _∷_}
-use Prim.Native.Nat.{ℕ, zero, suc, _-_, _^_, _<_, _≤_, zero-le}
+use Prim.Native.Nat.{ℕ, zero, suc, _-_, _^_, _<_, _≤_}
 use native.Mathlib.Nat.{le-refl, lt-of-le-of-lt, not-suc-le-zero, le-of-suc-le-suc}
 use native.Mathlib.Omega.{arith}
 use lib.Dec.{T, leb}
 use lib.ListN.{length, take, drop, getD, set, replicate}
 use lib.Seq.{set-getD, take-all}
-use borrow.Author.Tests.{le-leb, lt-leb, leb-true, leb-false}
-use Rattle.arithmetic.specs.Rolls.{inRange, firstWord, lastWord}
+use borrow.Author.Tests.{le-leb, lt-leb}
+use Rattle.arithmetic.specs.Rolls.{inRange, firstWord}
 use Rattle.arithmetic.specs.Width.{w64, size64}
 use Rattle.arithmetic.proofs.Words.{first-last, last-fits}
-use Rattle.rolls.specs.Run.{run, trace, rollsOf}
-use Rattle.rolls.specs.Inner.{suffices}
 use Rattle.rolls.proofs.Radix.{range-length}
 use Rattle.draws.specs.Shuffle.{exchange, shuffleWith, countdown, shuffleBounds, shufflePlan}
 use Rattle.draws.specs.Sample.{countup}
-use Rattle.draws.specs.Order.{AllBelow, Distinct, Reorders}
+use Rattle.draws.specs.Order.{AllBelow, Distinct}
 use Rattle.draws.specs.Plan.{joined, RollablePlan}
 use Rattle.draws.specs.Runs.{InRuns}
 use Rattle.draws.proofs.Plans.{countup-length, no-bounds, countdown-at, shuffle-bounds-length}
@@ -33,9 +30,10 @@ use Rattle.draws.proofs.Orders.{range-cons, shuffle-reorders, one-series}
 use Rattle.draws.proofs.Reach.{rolled-in-range, words-in-runs, shuffleRolls}
 use Rattle.promises.specs.Contracts.{Shuffle, RollsBehind, WordsBehind, MeetsOrder, MeetsBehind}
 use Rattle.promises.specs.Demand1.{firstOf, shuffleRefusals}
-use Rattle.promises.specs.Demand3.{Produces, Demand3At}
+use Rattle.promises.specs.Demand3.{Demand3At}
 use Rattle.promises.specs.StandIns.{FirstBatchOnly}
-use Rattle.promises.proofs.Naming.{truth, plan-fits, range-split}
+use Rattle.promises.proofs.Refusing.{truth}
+use Rattle.promises.proofs.Naming.{plan-fits, range-split}
 use Rattle.promises.proofs.Demand1.{demand1}
 use Rattle.promises.proofs.Demand3.{model, model-produces, same-at, demand3}
 
@@ -101,7 +99,9 @@ take-mixed (suc s) (suc t) n h = ap (λ (l : List ℕ). 0 ∷ l) (take-mixed s t
 stays : (k n : ℕ) (xs : List ℕ) → shuffleWith n (countdown k (n - 1)) xs ≡ xs
 unfolding shuffleWith countdown exchange
 stays zero n xs = refl
-stays (suc k) n xs = stays k (n - 1) (exchange xs (n - 1) (n - 1)) ∙ ap (λ (l : List ℕ). set l (n - 1) (getD xs (n - 1) 0)) (set-getD xs (n - 1) 0) ∙ set-getD xs (n - 1) 0
+stays (suc k) n xs =
+    stays k (n - 1) (exchange xs (n - 1) (n - 1))
+    ∙ ap (λ (l : List ℕ). set l (n - 1) (getD xs (n - 1) 0)) (set-getD xs (n - 1) 0) ∙ set-getD xs (n - 1) 0
 
 mixed-shuffles : (s n : ℕ) (xs : List ℕ) → shuffleWith n (mixed s n) xs ≡ shuffleWith n (replicate s 0) xs
 unfolding mixed shuffleWith
@@ -159,8 +159,8 @@ module _ (op : Shuffle) (f : FirstBatchOnly op) (rolls : RollsBehind) (behind : 
       let given : op words 0 xs .1 ≡ ys =
       f .moves words 0 xs allowed ∙ ap (λ (l : List ℕ). shuffleWith n (take s l) xs) e
       ∙ ap (λ (l : List ℕ). shuffleWith n l xs) (take-mixed s (n - 1) n (omega arith)) ∙ sym (mixed-shuffles s n xs) in
-      let in-runs = demand xs ys refl d reorders .1 words count below .0 (allowed, given) in
-      let truly = demand3 model rolls behind (λ w s x. refl) o b n high xs ys refl d reorders .1 words count below .1 in-runs in
+      let in-runs = demand xs ys refl d reorders .2 words count below .0 (allowed, given) in
+      let truly = demand3 model rolls behind (λ w s x. refl) o b n high xs ys refl d reorders .2 words count below .1 in-runs in
       let (u, g) = model-produces words xs ys high .0 truly in
       let one = one-series xs ys d reorders in
       let same : own ≡ rs = one .unique own own-in refl ∙ sym (one .unique rs range (ap (λ (l : List ℕ). shuffleWith n l xs) (sym e) ∙ g)) in

@@ -9,11 +9,10 @@ use mathlib.Core.Path.{_≡_, refl, sym, ap, ap₂, _∙_, subst}
 use mathlib.Core.Logic.{_↔_}
 use mathlib.Core.Bool.{Bool, true, false}
 use mathlib.Core.List.{List, [], _∷_, _++_}
-use Prim.Native.Nat.{ℕ, zero, suc, _+_, _-_, _*_, _/_, _%_, _^_, _<_, _≤_, suc-le-suc, zero-le}
-use native.Mathlib.Nat.{not-suc-le-zero, le-of-suc-le-suc}
+use Prim.Native.Nat.{ℕ, zero, suc, _+_, _-_, _*_, _/_, _%_, _^_, _<_, _≤_}
+use native.Mathlib.Nat.{le-of-suc-le-suc}
 use native.Mathlib.Omega.{arith}
 use lib.Arith.{digits-div, digits-mod}
-use lib.Dec.{T, leb, leb→le, le→leb}
 use lib.ListN.{length, take, drop, getD, length-drop, take-append-drop}
 use lib.Seq.{getD-drop, take-at, drop-at}
 use borrow.Author.Tests.{leb-true, leb-false, le-leb, lt-leb}
@@ -23,7 +22,7 @@ use Rattle.rolls.specs.Run.{Taken, Found, found, missing, find, Run, ran, short
 use Rattle.rolls.proofs.Finding.{find-hit, find-miss}
 use Rattle.rolls.proofs.Running.{run-hit, run-missing}
 use Rattle.draws.specs.Order.{AllBelow}
-use Rattle.draws.specs.Plan.{Rollable, RollablePlan}
+use Rattle.draws.specs.Plan.{RollablePlan}
 use Rattle.promises.specs.Demand2.{Unfolded, Gives, Rejects, First, Follows}
 
 -- ---- one word
@@ -92,7 +91,8 @@ found-at test (w ∷ ws) place t h = go (test w) refl (found-at test ws (place +
           before = λ i l. passed i (omega arith) (g .before);
         }
       where
-        passed : (i : ℕ) → i < suc (t .place - (place + 1)) → ((i : ℕ) → i < t .place - (place + 1) → test (getD ws i 0) ≡ false) → test (getD (w ∷ ws) i 0) ≡ false
+        passed : (i : ℕ) → i < suc (t .place - (place + 1)) → ((i : ℕ) → i < t .place - (place + 1) → test (getD ws i 0) ≡ false)
+            → test (getD (w ∷ ws) i 0) ≡ false
         passed zero l b = e
         passed (suc i) l b = b i (le-of-suc-le-suc l)
 
@@ -109,12 +109,15 @@ module _ (bs words : List ℕ) (p : 0 < product bs) (w : AllBelow (2 ^ 64) words
         gives = gives-iff bs p (getD words (t .place) 0) (w (t .place) fits) (rolls 64 bs (t .word)) .1 (rw word (a .passes, refl));
         before = λ i h k.
             let same : from + (i - from) ≡ i = omega arith in
-            let missed : accepted 64 bs (getD words i 0) ≡ false = ap (λ (n : ℕ). accepted 64 bs (getD words n 0)) (sym same) ∙ ap (accepted 64 bs) (sym (getD-drop from words (i - from) 0)) ∙ a .before (i - from) (omega arith) in
+            let missed : accepted 64 bs (getD words i 0) ≡ false =
+            ap (accepted 64 bs) (ap (λ (n : ℕ). getD words n 0) (sym same) ∙ sym (getD-drop from words (i - from) 0))
+            ∙ a .before (i - from) (omega arith) in
             rejects-iff bs p (getD words i 0) (w i (omega arith)) .1 missed;
       }
 
   pub first-found : (from place : ℕ) (rs : List ℕ) → First bs words from place rs
-      → (find (accepted 64 bs) (drop from words) from ≡ found (record { place = place; word = getD words place 0 })) × (rolls 64 bs (getD words place 0) ≡ rs)
+      → (find (accepted 64 bs) (drop from words) from ≡ found (record { place = place; word = getD words place 0 }))
+      × (rolls 64 bs (getD words place 0) ≡ rs)
   first-found from place rs f = (
     hits (place - from) from (omega (arith, f .here)) (f .before),
     gives-iff bs p (getD words place 0) (w place (f .here .1)) rs .0 (f .gives) .1,
@@ -154,7 +157,8 @@ ran-after bs plan words start t (ran ts) f g =
       places = t .place ∷ g .places;
       follows = (
         subst (First bs words start (t .place)) (sym (take-at (rolls 64 bs (t .word)) (rollsOf 64 plan ts) (length bs) n)) f,
-        subst (Follows plan words (t .place + 1) (next (t .place + 1) ts) (g .places)) (sym (drop-at (rolls 64 bs (t .word)) (rollsOf 64 plan ts) (length bs) n)) (g .follows),
+        subst (Follows plan words (t .place + 1) (next (t .place + 1) ts) (g .places))
+            (sym (drop-at (rolls 64 bs (t .word)) (rollsOf 64 plan ts) (length bs) n)) (g .follows),
       );
       used = omega (arith, g .used, f .here);
     }

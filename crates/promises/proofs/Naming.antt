@@ -12,9 +12,9 @@
 --   runs-full, runs-in        the runs of a plan, as the operation gives them
 use mathlib.Core.Path.{_≡_, refl, sym, ap, _∙_, subst}
 use mathlib.Core.Logic.{_↔_}
-use mathlib.Core.Bool.{Bool, true, false, not, _||_}
+use mathlib.Core.Bool.{false, not}
 use mathlib.Core.List.{List, [], _∷_, _++_, append-nil}
-use Prim.Native.Nat.{ℕ, zero, suc, _+_, _-_, _^_, _<_, _≤_, zero-le}
+use Prim.Native.Nat.{ℕ, zero, suc, _-_, _^_, _<_, _≤_, zero-le}
 use native.Mathlib.Nat.{le-of-suc-le-suc, not-suc-le-zero}
 use native.Mathlib.Decide.{ℕ-discrete}
 use native.Mathlib.Omega.{arith}
@@ -27,7 +27,7 @@ use Rattle.arithmetic.specs.Products.{hasZero}
 use Rattle.arithmetic.specs.Width.{size64}
 use Rattle.arithmetic.proofs.Rolls.{in-range-cons, product-pos-head, product-pos-tail}
 use Rattle.arithmetic.proofs.Words.{first-last, last-fits, run-length}
-use Rattle.rolls.specs.Outcome.{done, left}
+use Rattle.rolls.specs.Outcome.{done}
 use Rattle.rolls.proofs.Deciding.{decide-past, decide-none, in-count}
 use Rattle.rolls.proofs.Radix.{range-length}
 use Rattle.rolls.proofs.WayBack.{behind-found}
@@ -40,11 +40,11 @@ use Rattle.draws.specs.Operations.{rollsBehind}
 use Rattle.draws.proofs.Plans.{countup-length, countup-at, shuffle-bounds-length, sizes-more, sizes64, shuffle-plan}
 use Rattle.draws.proofs.Orders.{length-exchange, exchange-first, exchange-last, exchange-other, place-of, range-cons, length-shuffle, one-series}
 use Rattle.draws.proofs.Each.{order-iff, rolls-behind}
-use Rattle.rolls.specs.declared.answer.Answer.{Answer}
 use Rattle.rolls.specs.declared.answer.Behind.{Behind}
-use Rattle.promises.specs.Contracts.{RollsBehind, WordsBehind, MeetsOrder, MeetsBehind}
-use Rattle.promises.specs.Demand3.{places, rollsNamed, runsNamed, FullRuns, EachInRun}
+use Rattle.promises.specs.Contracts.{RollsBehind, WordsBehind, seen, MeetsOrder, MeetsBehind}
+use Rattle.promises.specs.Demand3.{Paired, places, runsNamed, InRun}
 use Rattle.promises.specs.Demand2.{FullRun}
+use Rattle.promises.proofs.Refusing.{truth}
 
 -- the batches of a shuffle can be rolled
 pub plan-fits : (n : ℕ) → n ≤ 16384 → PlanOf (2 ^ 64) (shuffleBounds n) (shufflePlan size64 n)
@@ -105,10 +105,6 @@ places-at xs [] i h = absurd (not-suc-le-zero h)
 places-at xs (y ∷ ys) zero h = refl
 places-at xs (y ∷ ys) (suc i) h = places-at xs ys i (le-of-suc-le-suc h)
 
-pub truth : (b : Bool) → T b → b ≡ true
-truth true t = refl
-truth false t = absurd t
-
 -- the operation, where it refuses nothing
 pub order-done : (ys : List ℕ) (room : ℕ) → length ys ≤ 16384 → length ys - 1 ≤ room → T (isOrder ys)
     → rollsBehind ys room ≡ done (rollsInto (length ys) (countup (length ys) 0) ys) 0 0
@@ -159,18 +155,21 @@ module _ (xs ys : List ℕ) (d : Distinct xs) (o : Reorders xs ys) where
               ∙ ap (record-at xs) (ap (λ (l : List ℕ). getD l i 0) (only .gives) ∙ places-at xs ys i k)
               ∙ stands i k .1
 
-  pub rolls-named : (rolls : RollsBehind) → MeetsOrder rolls → length xs ≤ 16384 → rollsNamed rolls xs ys ≡ rollsInto (length xs) xs ys
+  pub rolls-named : (rolls : RollsBehind) → MeetsOrder rolls → length xs ≤ 16384
+      → rolls (places xs ys) (replicate (length xs - 1) 0) ≡ (record { no = 0; next = 0; rejected = 0; batch = 0 }, rollsInto (length xs) xs ys)
   rolls-named rolls m h =
       let order : List ℕ = places xs ys in
       let lent : List ℕ = replicate (length xs - 1) 0 in
       let room : length lent ≡ length xs - 1 = length-replicate (length xs - 1) 0 in
       let values : List ℕ = rollsInto (length xs) xs ys in
-      let count : length values ≡ length xs - 1 = range-length (shuffleBounds (length xs)) values (truth _ (one-series xs ys d o .in-range)) ∙ shuffle-bounds-length (length xs) in
+      let count : length values ≡ length xs - 1 =
+      range-length (shuffleBounds (length xs)) values (truth _ (one-series xs ys d o .in-range)) ∙ shuffle-bounds-length (length xs) in
       let gives : rollsBehind order (length lent) ≡ done values 0 0 =
       order-done order (length lent) (omega (arith, places-count)) (omega (arith, places-count)) places-order
       ∙ ap (λ (l : List ℕ). done l 0 0) (rw places-count rolls-same) in
-      ap (λ (got : Answer × List ℕ). got .1) (m order lent) ∙ ap (left lent) gives
-      ∙ ap (λ (l : List ℕ). values ++ l) (drop-of-length-le lent {i = length values} (omega arith)) ∙ append-nil values
+      let all : values ++ drop (length values) lent ≡ values =
+      ap (λ (l : List ℕ). values ++ l) (drop-of-length-le lent {i = length values} (omega arith)) ∙ append-nil values in
+      m order lent ∙ ap (seen 0 lent) gives ∙ (λ i. (record { no = 0; next = 0; rejected = 0; batch = 0 }, all i))
 
 -- ---- the run of a batch
 
@@ -195,7 +194,8 @@ run-full bs rs b i = record {
 pub run-named : (behind : WordsBehind) → MeetsBehind behind → (bs rs : List ℕ) → Rollable (2 ^ 64) bs → T (inRange bs rs) → behind bs rs ≡ runOf bs rs
 run-named behind meets bs rs b i =
     meets bs rs
-    ∙ behind-found bs rs (in-count 1 16 (length bs) (b .some) (b .few)) (pos-no-zero bs (b .positive)) (le-ltb (2 ^ 64) (product bs) (b .fits)) (truth (inRange bs rs) i)
+    ∙ behind-found bs rs (in-count 1 16 (length bs) (b .some) (b .few)) (pos-no-zero bs (b .positive)) (le-ltb (2 ^ 64) (product bs) (b .fits))
+    (truth (inRange bs rs) i)
 
 pub range-split : (bs cs rs : List ℕ) → T (inRange (bs ++ cs) rs) → T (inRange bs (take (length bs) rs)) × T (inRange cs (drop (length bs) rs))
 unfolding inRange
@@ -207,7 +207,8 @@ range-split (b ∷ bs) cs (r ∷ rs) i =
     (in-range-cons b bs r (take (length bs) rs) .1 (h .0, s .0), s .1)
 
 module _ (behind : WordsBehind) (meets : MeetsBehind behind) where
-  pub runs-full : (plan : List (List ℕ)) (rs : List ℕ) → RollablePlan (2 ^ 64) plan → T (inRange (joined plan) rs) → FullRuns plan (runsNamed behind plan rs)
+  pub runs-full : (plan : List (List ℕ)) (rs : List ℕ) → RollablePlan (2 ^ 64) plan → T (inRange (joined plan) rs)
+      → Paired FullRun plan (runsNamed behind plan rs)
   unfolding joined runsNamed
   runs-full [] rs g i = tt
   runs-full (bs ∷ plan) rs (b, g) i =
@@ -216,15 +217,14 @@ module _ (behind : WordsBehind) (meets : MeetsBehind behind) where
       (subst (FullRun bs) (sym (run-named behind meets bs part b (s .0))) (run-full bs part b (s .0)), runs-full plan (drop (length bs) rs) g (s .1))
 
   pub runs-in : (plan : List (List ℕ)) (rs words : List ℕ) → RollablePlan (2 ^ 64) plan → T (inRange (joined plan) rs)
-      → EachInRun (runsNamed behind plan rs) words ↔ InRuns 64 plan rs words
+      → Paired InRun (runsNamed behind plan rs) words ↔ InRuns 64 plan rs words
   unfolding joined runsNamed
   runs-in [] rs [] g i = (λ x. x, λ x. x)
   runs-in [] rs (w ∷ ws) g i = (λ x. x, λ x. x)
   runs-in (bs ∷ plan) rs [] g i = (λ x. x, λ x. x)
   runs-in (bs ∷ plan) rs (w ∷ ws) (b, g) i =
       let s = range-split bs (joined plan) rs i in
-      let part : List ℕ = take (length bs) rs in
       let later = runs-in plan (drop (length bs) rs) ws g (s .1) in
-      subst (λ (run : Behind). ((run .first ≤ w) × (w ≤ run .last) × EachInRun (runsNamed behind plan (drop (length bs) rs)) ws) ↔ InRuns 64 (bs ∷ plan) rs (w ∷ ws))
-      (sym (run-named behind meets bs part b (s .0)))
-      (λ (low, high, x). (low, high, later .0 x), λ (low, high, x). (low, high, later .1 x))
+      subst (λ (run : Behind). (InRun run w × Paired InRun (runsNamed behind plan (drop (length bs) rs)) ws) ↔ InRuns 64 (bs ∷ plan) rs (w ∷ ws))
+      (sym (run-named behind meets bs (take (length bs) rs) b (s .0)))
+      (λ (r, x). (r .0, r .1, later .0 x), λ (low, high, x). ((low, high), later .1 x))

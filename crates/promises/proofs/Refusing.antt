@@ -1,5 +1,6 @@
 -- The first refusal of a list, over every operation. Assumes nothing.
 --
+--   truth                       a test that holds is true
 --   first-here, first-past      the first of a list, by the test of its head
 --   as-refused                  a refusal is the first one, alone, whatever an operation's answer looks like
 --   decide-under                two lists that agree where their head does not apply
@@ -9,10 +10,15 @@ use mathlib.Core.Bool.{Bool, true, false}
 use mathlib.Core.List.{List, [], _∷_}
 use Prim.Native.Nat.{ℕ}
 use native.Mathlib.Omega.{arith}
-use Rattle.rolls.specs.Outcome.{Outcome, refused, Refusal, no, decide}
+use lib.Dec.{T}
+use Rattle.rolls.specs.Outcome.{Outcome, refused, Refusal, decide}
 use Rattle.rolls.proofs.Deciding.{decide-here, decide-past, decide-none}
 use Rattle.promises.specs.Demand1.{firstOf, AsRefused}
 use Rattle.promises.specs.Demand2.{Allowed}
+
+pub truth : (b : Bool) → T b → b ≡ true
+truth true t = refl
+truth false t = absurd t
 
 module _ (r : Refusal) (rs : List Refusal) where
   pub first-here : r .applies ≡ true → firstOf (r ∷ rs) ≡ r

@@ -2,15 +2,15 @@
 -- otherwise is enough. Assumes nothing.
 use mathlib.Core.Path.{_≡_, refl, sym, ap, _∙_}
 use mathlib.Core.List.{List, [], _∷_, _++_}
-use Prim.Native.Nat.{ℕ, zero, suc, _-_, _^_, _<_, _≤_}
+use Prim.Native.Nat.{ℕ, zero, suc, _^_, _<_, _≤_}
 use native.Mathlib.Nat.{not-suc-le-zero, le-of-suc-le-suc, mul-one}
 use native.Mathlib.Omega.{arith}
-use lib.Dec.{T, lit≤, lit<}
-use lib.ListN.{length, take, drop, getD, replicate}
+use lib.Dec.{lit≤, lit<}
+use lib.ListN.{length, take, getD, replicate}
 use Rattle.arithmetic.specs.Rolls.{rolls, rest, product, inRange}
 use Rattle.arithmetic.specs.Products.{hasZero}
 use Rattle.arithmetic.specs.Width.{w64, size64}
-use Rattle.rolls.specs.Run.{find, runFrom, rollsOf, next, rejected}
+use Rattle.rolls.specs.Run.{find, runFrom, run, trace, rollsOf, next, rejected}
 use Rattle.rolls.specs.Cut.{cutFrom, cut}
 use Rattle.rolls.specs.Outcome.{decide, shownBatch}
 use Rattle.rolls.specs.Operations.{rollBatch, rollList}
@@ -19,14 +19,16 @@ use Rattle.draws.specs.Sample.{countup}
 use Rattle.draws.specs.Order.{eachOnce, AllBelow}
 use Rattle.draws.specs.Plan.{Rollable, RollablePlan}
 use Rattle.draws.specs.Operations.{shuffle}
+use Rattle.sheet.specs.Sheet.{little, entries}
 use Rattle.draws.proofs.Each.{countup-distinct}
 use Rattle.draws.proofs.Orders.{shuffle-reorders}
 use Rattle.promises.specs.Contracts.{RollBatch, RollList, Shuffle, RollsBehind, WordsBehind, seen, MeetsOrder, MeetsBehind}
 use Rattle.promises.specs.Demand1.{firstOf, batchRefusals, listRefusals, shuffleRefusals}
 use Rattle.promises.specs.Demand2.{Allowed, Lemire, Demand2Batch, Demand2List, Demand2Shuffle}
 use Rattle.promises.specs.Demand3.{Demand3}
-use Rattle.promises.specs.StandIns.{MovesNothing, FirstBatchOnly, Invented, StandIns}
+use Rattle.promises.specs.StandIns.{MovesNothing, FirstBatchOnly, Invented, HoldsStandIns}
 use Rattle.promises.proofs.Naming.{plan-fits}
+use Rattle.promises.proofs.Demand1.{demand1}
 use Rattle.promises.proofs.Demand2.{one-outcome, demand2}
 use Rattle.promises.proofs.Demand3.{model, demand3}
 use Rattle.promises.proofs.FirstBatch.{fails-from-eight, holds-to-seven}
@@ -80,7 +82,8 @@ module _ (b : ℕ) (p : 0 < b) (l : b < 2 ^ 64) (words : List ℕ) (w : AllBelow
       let lent : List ℕ = 0 ∷ [] in
       let below = below-cons b [] l below-nil in
       let mine = demand words 0 bs lent w below a .1 in
-      let true-one = demand2 .roll-list (λ words start bs lent. seen start lent (rollList w64 words start bs (length lent))) (λ w s x y. refl) words 0 bs lent w below a .1 in
+      let list : RollList = λ words start bs lent. seen start lent (rollList w64 words start bs (length lent)) in
+      let true-one = demand2 .roll-list list (λ w s x y. refl) words 0 bs lent w below a .1 in
       let same = same-outcome (bs ∷ []) words (one-bound, tt) w 0 _ _ _ _ _ _ mine true-one .2 in
       mine .reading ∙ ap (λ (rs : List ℕ). rs ++ []) same ∙ sym (true-one .reading)
 
@@ -115,7 +118,8 @@ nothing-2 : (op : Shuffle) → MovesNothing op → Demand2Shuffle op → ⊥
 unfolding firstOf product rest rolls find runFrom rollsOf next rejected decide size64 shuffle shufflePlanFrom countdown shuffleWith exchange
 nothing-2 op m d =
     let xs : List ℕ = 0 ∷ 1 ∷ [] in
-    let z : _≡_ {A = ℕ} 0 1 = ap (λ (l : List ℕ). getD l 0 0) (sym (m (0 ∷ []) 0 xs) ∙ pinned op d (0 ∷ []) 0 xs (one-word 0 (lit< tt)) refl (lit≤ tt) .1) in
+    let e = pinned op d (0 ∷ []) 0 xs (one-word 0 (lit< tt)) refl (lit≤ tt) .1 in
+    let z : _≡_ {A = ℕ} 0 1 = ap (λ (l : List ℕ). getD l 0 0) (sym (m (0 ∷ []) 0 xs) ∙ e) in
     omega arith
 
 nothing-3 : (op : Shuffle) → MovesNothing op → (rolls : RollsBehind) (behind : WordsBehind) → MeetsOrder rolls → MeetsBehind behind
@@ -127,8 +131,8 @@ nothing-3 op m rolls behind o b d =
     let h = lit≤ {m = 2} {n = 16384} tt in
     let reorders = shuffle-reorders 2 (0 ∷ []) xs (lit≤ tt) tt (countup-distinct 2) in
     let w = one-word 0 (lit< tt) in
-    let in-runs = demand3 model rolls behind (λ w s x. refl) o b 2 h xs ys refl (countup-distinct 2) reorders .1 (0 ∷ []) refl w .0 (refl, refl) in
-    let (y, e) = d 2 h xs ys refl (countup-distinct 2) reorders .1 (0 ∷ []) refl w .1 in-runs in
+    let in-runs = demand3 model rolls behind (λ w s x. refl) o b 2 h xs ys refl (countup-distinct 2) reorders .2 (0 ∷ []) refl w .0 (refl, refl) in
+    let (y, e) = d 2 h xs ys refl (countup-distinct 2) reorders .2 (0 ∷ []) refl w .1 in-runs in
     let z : _≡_ {A = ℕ} 0 1 = ap (λ (l : List ℕ). getD l 0 0) (sym (m (0 ∷ []) 0 xs) ∙ e) in
     omega arith
 
@@ -154,22 +158,37 @@ count-2 op (count, f) d =
     let z : _≡_ {A = ℕ} 1 0 = sym one ∙ f (0 ∷ 1 ∷ []) 0 xs ∙ sym (f (1 ∷ 1 ∷ []) 0 xs) ∙ none in
     omega arith
 
+first-some : (op : Shuffle) × FirstBatchOnly op
+first-some =
+    let rolled : List ℕ → ℕ → List ℕ → List ℕ =
+    λ words start xs. rollsOf 64 (shufflePlan size64 (length xs)) (trace (run 64 (shufflePlan size64 (length xs)) words start)) in (
+      λ words start xs. (model words start xs .0, shuffleWith (length xs) (take (size64 (length xs)) (rolled words start xs)) xs),
+      record { refuses = λ words start xs. demand1 .shuffle model (λ w s x. refl) words start xs .lowest; moves = λ words start xs z. refl },
+    )
+
+-- a sheet of no word and one record, k = 1, w = 0
+small-sheet : List ℕ
+small-sheet =
+    0 ∷ 0 ∷ 0 ∷ 0 ∷ 24 ∷ 0 ∷ 0 ∷ 0 ∷ 1 ∷ 0 ∷ 0 ∷ 0 ∷ 24 ∷ 0 ∷ 0 ∷ 0 ∷ 1 ∷ 0 ∷ 0 ∷ 0 ∷ 0 ∷ 0 ∷ 0 ∷ 0 ∷ 7 ∷ 0 ∷ 0 ∷ 0 ∷ []
+
 -- each operation has a call that no refusal applies to
-pub stand-ins : StandIns
-unfolding firstOf hasZero product rest find runFrom inRange cut countup eachOnce shufflePlanFrom
-stand-ins = record {
+pub stand-ins : HoldsStandIns
+unfolding firstOf hasZero product rest find runFrom inRange cut countup eachOnce shufflePlanFrom little entries small-sheet
+stand-ins rolls behind o b = record {
   refuses-batch = λ op r d. r (0 ∷ []) 0 (1 ∷ []) (d (0 ∷ []) 0 (1 ∷ []) (one-word 0 (lit< tt)) refl .0);
   refuses-list = λ op r d. r [] 0 [] [] (d [] 0 [] [] below-nil below-nil refl .0);
   refuses-shuffle = λ op r d. r [] 0 [] (d [] 0 [] below-nil refl .0);
   refuses-sample = λ op r d. r [] 0 (7 ∷ []) 1 (0 ∷ []) (d [] 0 (7 ∷ []) 1 (0 ∷ []) below-nil refl .0);
+  refuses-sheet = λ op r draw d. r small-sheet (0 ∷ []) (d small-sheet (0 ∷ []) refl .1);
   refuses-behind = λ op r d. r (1 ∷ []) (0 ∷ []) (d (1 ∷ []) (0 ∷ []) refl .0 .named .0);
   refuses-order = λ op r d. r [] [] (d [] [] refl .0);
   fixed-batch = fixed-batch;
   fixed-list = fixed-list;
   nothing-2 = nothing-2;
-  nothing-3 = nothing-3;
+  nothing-3 = λ op m. nothing-3 op m rolls behind o b;
+  first-some = first-some;
   first-2 = first-2;
-  first-3 = fails-from-eight;
-  first-3-before = holds-to-seven;
+  first-3 = λ op f. fails-from-eight op f rolls behind o b;
+  first-3-before = λ op f. holds-to-seven op f rolls behind o b;
   count-2 = count-2;
 }

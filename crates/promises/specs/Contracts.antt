@@ -1,8 +1,9 @@
 -- The seven operations as their caller observes them, and what it is to meet their contracts.
 --
--- The promises are made of any operation that meets a contract, ours being one: each contract of the code is the equation below. An
--- operation is a function of what the call is given; a list that it is lent to write in comes last, and comes back beside the answer.
--- The lists hold any numbers; the code is only ever given words, bounds and rolls below 2^64 and records below 2^32.
+-- The promises are made of any operation that meets its contract; the contract of the code is the equation below. An operation is a
+-- function of what the call is given. A list that it is lent to write in comes last, and comes back beside the answer. The lists hold any
+-- numbers. The code is only ever given words, bounds and rolls below 2^64 and records below 2^32: take it as completed by the definitions
+-- on lists that no call can hold.
 --
 --   RollBatch        words, start, bounds
 --   RollList         words, start, bounds, the lent list of rolls
@@ -11,7 +12,7 @@
 --   Sample           words, start, records, k, the lent list of slots
 --   RollsBehind      the order, the lent list of rolls
 --   RunSheet         the sheet's bytes, the lent list of records
---   seen start lent outcome     what the caller sees: the answer, and the lent list as it is left
+--   seen start lent outcome     what the caller sees of an outcome: the answer, and the lent list as it is left
 --   MeetsBatch .. MeetsSheet    on every input the caller sees what the definitions of rolls, draws and sheet say
 use mathlib.Core.Path.{_≡_}
 use mathlib.Core.List.{List}
@@ -55,7 +56,8 @@ abbrev pub MeetsBatch : RollBatch → Type 0
 MeetsBatch op = (words : List ℕ) (start : ℕ) (bs : List ℕ) → op words start bs ≡ shownBatch start (rollBatch w64 words start bs)
 
 abbrev pub MeetsList : RollList → Type 0
-MeetsList op = (words : List ℕ) (start : ℕ) (bs lent : List ℕ) → op words start bs lent ≡ seen start lent (rollList w64 words start bs (length lent))
+MeetsList op = (words : List ℕ) (start : ℕ) (bs lent : List ℕ)
+    → op words start bs lent ≡ seen start lent (rollList w64 words start bs (length lent))
 
 abbrev pub MeetsBehind : WordsBehind → Type 0
 MeetsBehind op = (bs rs : List ℕ) → op bs rs ≡ shownBehind (wordsBehind w64 bs rs)
@@ -71,4 +73,5 @@ abbrev pub MeetsOrder : RollsBehind → Type 0
 MeetsOrder op = (ys lent : List ℕ) → op ys lent ≡ seen 0 lent (rollsBehind ys (length lent))
 
 abbrev pub MeetsSheet : RunSheet → Type 0
-MeetsSheet op = (s lent : List ℕ) → op s lent ≡ (shownDrawn s (runSheet w64 s (length lent)), left lent (runSheet w64 s (length lent)))
+MeetsSheet op = (s lent : List ℕ)
+    → let outcome : Outcome = runSheet w64 s (length lent) in op s lent ≡ (shownDrawn s outcome, left lent outcome)

@@ -6,13 +6,14 @@
 -- the start place as given (0 where the operation takes none), and zeros elsewhere, except that 10 also names the first batch, from 0,
 -- that got no word. Every lent list stays the same."
 --
---   batchRefusals .. sheetRefusals     what an operation can meet, in the order of its sentence in document 01: each number with its test
+--   batchRefusals .. sheetRefusals     the numbers that an operation can meet, with their tests, in the order of document 01
 --   firstOf refusals                   the first whose test holds; number 0 where none holds
 --   batchSaying .. drawnSaying         all that a caller gets of a refusal; a lent list comes back as it was
---   AsRefused refusals saying no got   the number given is that of the first refusal, and where it is not 0 the caller got that refusal alone
---   Demand1                            so it is for each operation that meets its contract; and which batch number 10 names
+--   AsRefused refusals saying no got   the number given is that of the first, and where it is not 0 the caller got that refusal alone
+--   Demand1                            the statement: so it is for each operation that meets its contract; which batch number 10 names;
+--                                      and that the test of number 1 is the sentence of document 01
 use mathlib.Core.Path.{_≡_}
-use mathlib.Core.Logic.{_≢_}
+use mathlib.Core.Logic.{_↔_, _≢_}
 use mathlib.Core.Bool.{true, false, not, _||_}
 use mathlib.Core.List.{List, [], _∷_}
 use Prim.Native.Nat.{ℕ, _+_, _-_, _^_, _<_}
@@ -28,7 +29,7 @@ use Rattle.rolls.specs.Outcome.{Refusal, no, noWord, outside}
 use Rattle.draws.specs.Shuffle.{shufflePlan}
 use Rattle.draws.specs.Sample.{countup}
 use Rattle.draws.specs.Order.{isOrder}
-use Rattle.sheet.specs.Sheet.{Numbers, numbers, wordsOf, isSound}
+use Rattle.sheet.specs.Sheet.{Numbers, numbers, wordsOf, Sound, isSound}
 use Rattle.rolls.specs.declared.answer.Answer.{Answer}
 use Rattle.rolls.specs.declared.answer.Batch.{Batch}
 use Rattle.rolls.specs.declared.answer.Behind.{Behind}
@@ -103,19 +104,25 @@ pub record AsRefused {A : Type 0} (refusals : List Refusal) (saying : Refusal �
 
 pub record Demand1 : Type 0 where
   pub roll-batch : (op : RollBatch) → MeetsBatch op → (words : List ℕ) (start : ℕ) (bs : List ℕ)
-      → AsRefused (batchRefusals words start bs) (batchSaying start) (op words start bs .no) (op words start bs)
+      → let got : Batch = op words start bs in AsRefused (batchRefusals words start bs) (batchSaying start) (got .no) got
   pub roll-list : (op : RollList) → MeetsList op → (words : List ℕ) (start : ℕ) (bs lent : List ℕ)
-      → AsRefused (listRefusals words start bs (length lent)) (answerSaying start lent) (op words start bs lent .0 .no) (op words start bs lent)
+      → let got : Answer × List ℕ = op words start bs lent in
+      AsRefused (listRefusals words start bs (length lent)) (answerSaying start lent) (got .0 .no) got
   pub words-behind : (op : WordsBehind) → MeetsBehind op → (bs rs : List ℕ)
-      → AsRefused (behindRefusals bs rs) behindSaying (op bs rs .no) (op bs rs)
+      → let got : Behind = op bs rs in AsRefused (behindRefusals bs rs) behindSaying (got .no) got
   pub shuffle : (op : Shuffle) → MeetsShuffle op → (words : List ℕ) (start : ℕ) (xs : List ℕ)
-      → AsRefused (shuffleRefusals words start (length xs)) (answerSaying start xs) (op words start xs .0 .no) (op words start xs)
+      → let got : Answer × List ℕ = op words start xs in
+      AsRefused (shuffleRefusals words start (length xs)) (answerSaying start xs) (got .0 .no) got
   pub sample : (op : Sample) → MeetsSample op → (words : List ℕ) (start : ℕ) (xs : List ℕ) (k : ℕ) (lent : List ℕ)
-      → AsRefused (sampleRefusals words start (length xs) k (length lent)) (answerSaying start lent) (op words start xs k lent .0 .no) (op words start xs k lent)
+      → let got : Answer × List ℕ = op words start xs k lent in
+      AsRefused (sampleRefusals words start (length xs) k (length lent)) (answerSaying start lent) (got .0 .no) got
   pub rolls-behind : (op : RollsBehind) → MeetsOrder op → (ys lent : List ℕ)
-      → AsRefused (orderRefusals ys (length lent)) (answerSaying 0 lent) (op ys lent .0 .no) (op ys lent)
+      → let got : Answer × List ℕ = op ys lent in AsRefused (orderRefusals ys (length lent)) (answerSaying 0 lent) (got .0 .no) got
   pub run-sheet : (op : RunSheet) → MeetsSheet op → (s lent : List ℕ)
-      → AsRefused (sheetRefusals s (length lent)) (drawnSaying lent) (op s lent .0 .no) (op s lent)
+      → let got : Drawn × List ℕ = op s lent in AsRefused (sheetRefusals s (length lent)) (drawnSaying lent) (got .0 .no) got
   -- number 10 names a batch of the plan: those before it have their words, and with it the words do not suffice
   pub first-short : (plan : List (List ℕ)) (words : List ℕ) (start k : ℕ) → run 64 plan words start ≡ short k
-      → (k < length plan) × T (suffices (run 64 (take k plan) words start)) × T (not (suffices (run 64 (take (k + 1) plan) words start)))
+      → (k < length plan) × T (suffices (run 64 (take k plan) words start))
+      × T (not (suffices (run 64 (take (k + 1) plan) words start)))
+  -- the test of number 1 is the sentence of document 01
+  pub sound : (s : List ℕ) → T (isSound s) ↔ Sound s

@@ -6,16 +6,18 @@
 -- where none was) and the count of rejected words; words used are batches plus rejected."
 --
 --   Allowed refusals                    none of the refusals applies
---   Unfolded bs word rs r               a batch's rolls rs and last r of one word: product * word = 2^64 * value + last r
+--   Unfolded bs word rs r               the rolls rs and the last r of a word: one roll for each bound, each below it, and product times
+--                                       word = 2^64 times the value of the rolls + the last r, as the paper has it
 --   Gives bs word rs                    the word gives these rolls, accepted: the last r is at least t = 2^64 mod product
 --   Rejects bs word                     the word is rejected: the last r is below t
 --   First bs words from place rs        of the words from a place on, the first that is accepted stands here, and gives these rolls
---   Follows plan words from next ps rs  each batch in turn takes the first accepted word from the place after the one before; these are
---                                       their places, the place after the last of them, and the rolls, batch after batch
---   Lemire plan words start next rejected Read    so it is for some places and rolls; used = batches + rejected; and the rolls read so
---   Demand2Batch .. Demand2Order        the demand on each operation, on every call that no refusal of demand 1 applies to
---   FullRun bs run                      a run of words: named, not empty, below 2^64, as many as 2^64 / product
---   Demand2                             the statement: it holds of each operation that meets its contract; and of the bounds in the plans
+--   Follows plan words from next ps rs  each batch in turn takes the first accepted word from the place after the one before it: at the
+--                                       places ps, with the rolls rs, batch after batch; next is the place after the last
+--   Lemire plan words start next rejected Read    it follows for some places and rolls; words used = batches + rejected; the rolls read so
+--   Demand2Batch .. Demand2Order        the demand on each operation, on every call that no refusal applies to: it is not refused, and ..
+--   FullRun bs run                      a run of words that is named, not empty, ends below 2^64, and has 2^64 / product words
+--   Demand2                             the statement: each operation that meets its contract meets its demand; which bounds the plans
+--                                       have; when the words suffice; and that the method leaves one possible outcome
 use mathlib.Core.Path.{_≡_}
 use mathlib.Core.Logic.{_↔_}
 use mathlib.Core.Bool.{false}
@@ -25,24 +27,28 @@ use lib.Dec.{T}
 use lib.ListN.{length, take, drop, getD, replicate}
 use Rattle.arithmetic.specs.Rolls.{product, value, inRange}
 use Rattle.arithmetic.specs.Width.{size64}
+use Rattle.rolls.specs.Run.{run}
 use Rattle.rolls.specs.Cut.{cut}
+use Rattle.rolls.specs.Inner.{suffices}
 use Rattle.rolls.specs.Outcome.{Refusal}
 use Rattle.draws.specs.Shuffle.{shuffleWith, shuffleBounds, shufflePlan}
 use Rattle.draws.specs.Sample.{countup, reservoir}
 use Rattle.draws.specs.Order.{AllBelow, Only}
-use Rattle.draws.specs.Plan.{RollablePlan, PlanOf}
+use Rattle.draws.specs.Plan.{RollablePlan, PlanOf, Bounded}
+use Rattle.sheet.specs.Sheet.{Numbers, numbers, wordsOf, recordsOf}
 use Rattle.rolls.specs.declared.answer.Batch.{Batch}
 use Rattle.rolls.specs.declared.answer.Behind.{Behind}
-use Rattle.promises.specs.Contracts.{RollBatch, RollList, WordsBehind, Shuffle, Sample, RollsBehind}
-use Rattle.promises.specs.Contracts.{MeetsBatch, MeetsList, MeetsBehind, MeetsShuffle, MeetsSample, MeetsOrder}
-use Rattle.promises.specs.Demand1.{firstOf, samplePlan, batchRefusals, listRefusals, shuffleRefusals, sampleRefusals, behindRefusals, orderRefusals}
+use Rattle.sheet.specs.declared.run.Drawn.{Drawn}
+use Rattle.promises.specs.Contracts.{RollBatch, RollList, WordsBehind, Shuffle, Sample, RollsBehind, RunSheet}
+use Rattle.promises.specs.Contracts.{MeetsBatch, MeetsList, MeetsBehind, MeetsShuffle, MeetsSample, MeetsOrder, MeetsSheet}
+use Rattle.promises.specs.Demand1.{firstOf, samplePlan, batchRefusals, listRefusals, shuffleRefusals, sampleRefusals}
+use Rattle.promises.specs.Demand1.{behindRefusals, orderRefusals, sheetRefusals}
 
 abbrev pub Allowed : List Refusal → Type 0
 Allowed refusals = firstOf refusals .applies ≡ false
 
 -- ---- Lemire's batched rejection method
 
--- one roll for each bound, each below it; the rolls and the last r are the only ones with this equation
 pub record Unfolded (bs : List ℕ) (word : ℕ) (rs : List ℕ) (r : ℕ) : Type 0 where
   pub range : T (inRange bs rs)
   pub rest : r < 2 ^ 64
@@ -89,7 +95,8 @@ Demand2List op = (words : List ℕ) (start : ℕ) (bs lent : List ℕ) → AllBe
 
 -- Fisher-Yates with these rolls
 abbrev pub Demand2Shuffle : Shuffle → Type 0
-Demand2Shuffle op = (words : List ℕ) (start : ℕ) (xs : List ℕ) → AllBelow (2 ^ 64) words → Allowed (shuffleRefusals words start (length xs))
+Demand2Shuffle op = (words : List ℕ) (start : ℕ) (xs : List ℕ) → AllBelow (2 ^ 64) words
+    → Allowed (shuffleRefusals words start (length xs))
     → let (a, after) = op words start xs in
     (a .no ≡ 0)
     × Lemire (shufflePlan size64 (length xs)) words start (a .next) (a .rejected) (λ rs. after ≡ shuffleWith (length xs) rs xs)
@@ -102,6 +109,17 @@ Demand2Sample op = (words : List ℕ) (start : ℕ) (xs : List ℕ) (k : ℕ) (l
     (a .no ≡ 0)
     × Lemire (samplePlan (length xs) k) words start (a .next) (a .rejected)
     (λ rs. after ≡ reservoir (take k xs) (drop k xs) rs ++ drop k lent)
+
+-- the six numbers that come back with the draw of a sheet
+abbrev pub six : Drawn → Numbers
+six d = record { words = d .words; wordsAt = d .«words_at»; records = d .records; recordsAt = d .«records_at»; k = d .k; w = d .w }
+
+-- the sample, as the operation sample draws it, from start 0 of the sheet's words and records
+abbrev pub Demand2Sheet : RunSheet → Sample → Type 0
+Demand2Sheet op sample = (s lent : List ℕ) → Allowed (sheetRefusals s (length lent))
+    → let (a, slots) = sample (wordsOf s) 0 (recordsOf s) (numbers s .k) lent in
+    let (d, after) = op s lent in
+    (a .no ≡ 0) × (d .no ≡ 0) × (d .next ≡ a .next) × (d .rejected ≡ a .rejected) × (after ≡ slots) × (six d ≡ numbers s)
 
 -- ---- the way back
 
@@ -130,11 +148,18 @@ pub record Demand2 : Type 0 where
   pub roll-list : (op : RollList) → MeetsList op → Demand2List op
   pub shuffle : (op : Shuffle) → MeetsShuffle op → Demand2Shuffle op
   pub sample : (op : Sample) → MeetsSample op → Demand2Sample op
+  pub run-sheet : (op : RunSheet) (sample : Sample) → MeetsSheet op → MeetsSample sample → Demand2Sheet op sample
   pub words-behind : (op : WordsBehind) → MeetsBehind op → Demand2Behind op
   pub rolls-behind : (op : RollsBehind) → MeetsOrder op → Demand2Order op
-  -- the bounds of a shuffle, batch after batch, are n, n - 1, .., 2, and those of a sample k + 1, .., n
+  -- batch after batch the bounds are those of the list; of a shuffle n, n - 1, .., 2; of a sample k + 1, .., n; and each batch can be rolled
+  pub list-bounds : (bs : List ℕ) → Bounded (2 ^ 64) bs → PlanOf (2 ^ 64) bs (cut (2 ^ 56) bs)
   pub shuffle-bounds : (n : ℕ) → n ≤ 16384 → PlanOf (2 ^ 56) (shuffleBounds n) (shufflePlan size64 n)
   pub sample-bounds : (n k : ℕ) → n ≤ 16384 → PlanOf (2 ^ 56) (countup (n - k) (k + 1)) (samplePlan n k)
-  -- the method leaves nothing open: of a plan that can be rolled, and of words, it gives one next place, one count, one series of rolls
-  pub one-outcome : (plan : List (List ℕ)) (words : List ℕ) → RollablePlan (2 ^ 64) plan → AllBelow (2 ^ 64) words → (start m n r s : ℕ) (xs ys : List ℕ)
-      → Lemire plan words start m r (λ rs. rs ≡ xs) → Lemire plan words start n s (λ rs. rs ≡ ys) → (m ≡ n) × (r ≡ s) × (xs ≡ ys)
+  -- of a plan that can be rolled, and of words: number 10 applies exactly where the method gives nothing
+  pub words-suffice : (plan : List (List ℕ)) (words : List ℕ) → RollablePlan (2 ^ 64) plan → AllBelow (2 ^ 64) words
+      → (start : ℕ) → start ≤ length words
+      → T (suffices (run 64 plan words start)) ↔ ((next rejected : ℕ) × Lemire plan words start next rejected (λ rs. Unit))
+  -- and it gives one next place, one count, one series of rolls
+  pub one-outcome : (plan : List (List ℕ)) (words : List ℕ) → RollablePlan (2 ^ 64) plan → AllBelow (2 ^ 64) words
+      → (start m n r s : ℕ) (xs ys : List ℕ) → Lemire plan words start m r (λ rs. rs ≡ xs) → Lemire plan words start n s (λ rs. rs ≡ ys)
+      → (m ≡ n) × (r ≡ s) × (xs ≡ ys)

@@ -8,7 +8,6 @@
 --   o is p                 whether two outcomes are equal
 --   gives L bs word rs     whether the word is accepted at width L and gives these rolls
 --   all cs                 whether every entry is true
---   eight                  the records 0, 1, .., 7
 --   table                  the starred lines
 use mathlib.Core.Bool.{Bool, true, false, not, _&&_}
 use mathlib.Core.List.{List, [], _∷_}
@@ -18,6 +17,7 @@ use Rattle.arithmetic.specs.Width.{w64}
 use Rattle.arithmetic.specs.Rolls.{rolls, rest, product, threshold, accepted}
 use Rattle.rolls.specs.Outcome.{Outcome, refused, done, left}
 use Rattle.rolls.specs.Operations.{rollBatch, wordsBehind}
+use Rattle.draws.specs.Sample.{countup}
 use Rattle.draws.specs.Operations.{shuffle, rollsBehind}
 
 abbrev pub same : List ℕ → List ℕ → Bool
@@ -39,9 +39,6 @@ gives L bs word rs = accepted L bs word && same (rolls L bs word) rs
 abbrev pub all : List Bool → Bool
 all [] = true
 all (c ∷ cs) = c && all cs
-
-abbrev pub eight : List ℕ
-eight = 0 ∷ 1 ∷ 2 ∷ 3 ∷ 4 ∷ 5 ∷ 6 ∷ 7 ∷ []
 
 unfoldable pub table : List Bool
 table =
@@ -74,9 +71,9 @@ table =
     ∷ shuffle w64 (0 ∷ []) 0 (7 ∷ 9 ∷ []) is done (9 ∷ 7 ∷ []) 1 0
     ∷ shuffle w64 (2 ^ 63 ∷ []) 0 (7 ∷ 9 ∷ []) is done (7 ∷ 9 ∷ []) 1 0
     -- Eight records 0..7, words 1, 0: 1, 2, 3, 4, 5, 6, 7, 0. With word 1 alone: refused 10, batch 1, records as they were
-    ∷ shuffle w64 (1 ∷ 0 ∷ []) 0 eight is done (1 ∷ 2 ∷ 3 ∷ 4 ∷ 5 ∷ 6 ∷ 7 ∷ 0 ∷ []) 2 0
-    ∷ shuffle w64 (1 ∷ []) 0 eight is refused 10 1
-    ∷ same (left eight (shuffle w64 (1 ∷ []) 0 eight)) eight
+    ∷ shuffle w64 (1 ∷ 0 ∷ []) 0 (countup 8 0) is done (1 ∷ 2 ∷ 3 ∷ 4 ∷ 5 ∷ 6 ∷ 7 ∷ 0 ∷ []) 2 0
+    ∷ shuffle w64 (1 ∷ []) 0 (countup 8 0) is refused 10 1
+    ∷ same (left (countup 8 0) (shuffle w64 (1 ∷ []) 0 (countup 8 0))) (countup 8 0)
     -- Rolls behind 1, 2, 0: 0, 0
     ∷ rollsBehind (1 ∷ 2 ∷ 0 ∷ []) 2 is done (0 ∷ 0 ∷ []) 0 0
     ∷ []

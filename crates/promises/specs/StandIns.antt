@@ -8,7 +8,8 @@
 --   MovesNothing op      the records are left as they were, whatever the answer
 --   FirstBatchOnly op    refuses as it should, and else leaves the records as the first batch has them
 --   Invented op          the rejected count is made up without a look at the words: of their number, the start and the records
---   StandIns             the statement; the shuffle of the first batch alone meets demand 3 up to 7 records, which are one batch
+--   StandIns             each fails its demand; the shuffle of the first batch alone meets demand 3 up to 7 records, which are one batch
+--   HoldsStandIns        the statement: demand 3 names its runs by two operations that meet their contracts
 use mathlib.Core.Path.{_≡_}
 use mathlib.Core.Logic.{_≢_}
 use mathlib.Core.List.{List}
@@ -17,47 +18,53 @@ use lib.ListN.{length, take}
 use Rattle.arithmetic.specs.Width.{size64}
 use Rattle.rolls.specs.Run.{run, trace, rollsOf}
 use Rattle.draws.specs.Shuffle.{shuffleWith, shufflePlan}
-use Rattle.promises.specs.Contracts.{RollBatch, RollList, WordsBehind, Shuffle, Sample, RollsBehind, MeetsBehind, MeetsOrder}
+use Rattle.promises.specs.Contracts.{RollBatch, RollList, WordsBehind, Shuffle, Sample, RollsBehind, RunSheet}
+use Rattle.promises.specs.Contracts.{MeetsBehind, MeetsOrder}
 use Rattle.promises.specs.Demand1.{firstOf, shuffleRefusals}
-use Rattle.promises.specs.Demand2.{Demand2Batch, Demand2List, Demand2Shuffle, Demand2Sample, Demand2Behind, Demand2Order}
+use Rattle.promises.specs.Demand2.{Demand2Batch, Demand2List, Demand2Shuffle, Demand2Sample, Demand2Sheet}
+use Rattle.promises.specs.Demand2.{Demand2Behind, Demand2Order}
 use Rattle.promises.specs.Demand3.{Demand3At, Demand3}
 
 abbrev pub MovesNothing : Shuffle → Type 0
 MovesNothing op = (words : List ℕ) (start : ℕ) (xs : List ℕ) → op words start xs .1 ≡ xs
 
 pub record FirstBatchOnly (op : Shuffle) : Type 0 where
-  pub refuses : (words : List ℕ) (start : ℕ) (xs : List ℕ) → op words start xs .0 .no ≡ firstOf (shuffleRefusals words start (length xs)) .number
+  pub refuses : (words : List ℕ) (start : ℕ) (xs : List ℕ)
+      → op words start xs .0 .no ≡ firstOf (shuffleRefusals words start (length xs)) .number
   pub moves : (words : List ℕ) (start : ℕ) (xs : List ℕ) → op words start xs .0 .no ≡ 0
       → let plan : List (List ℕ) = shufflePlan size64 (length xs) in
-      op words start xs .1 ≡ shuffleWith (length xs) (take (size64 (length xs)) (rollsOf 64 plan (trace (run 64 plan words start)))) xs
+      let rs : List ℕ = rollsOf 64 plan (trace (run 64 plan words start)) in
+      op words start xs .1 ≡ shuffleWith (length xs) (take (size64 (length xs)) rs) xs
 
 abbrev pub Invented : Shuffle → Type 0
 Invented op = (count : ℕ → ℕ → List ℕ → ℕ)
     × ((words : List ℕ) (start : ℕ) (xs : List ℕ) → op words start xs .0 .rejected ≡ count (length words) start xs)
 
-pub record StandIns : Type 0 where
+pub record StandIns (rolls : RollsBehind) (behind : WordsBehind) : Type 0 where
   -- refusing every call
-  pub refuses-batch : (op : RollBatch) → ((words : List ℕ) (start : ℕ) (bs : List ℕ) → op words start bs .no ≢ 0) → ¬ Demand2Batch op
-  pub refuses-list : (op : RollList) → ((words : List ℕ) (start : ℕ) (bs lent : List ℕ) → op words start bs lent .0 .no ≢ 0) → ¬ Demand2List op
-  pub refuses-shuffle : (op : Shuffle) → ((words : List ℕ) (start : ℕ) (xs : List ℕ) → op words start xs .0 .no ≢ 0) → ¬ Demand2Shuffle op
-  pub refuses-sample : (op : Sample) → ((words : List ℕ) (start : ℕ) (xs : List ℕ) (k : ℕ) (lent : List ℕ) → op words start xs k lent .0 .no ≢ 0)
+  pub refuses-batch : (op : RollBatch) → ((ws : List ℕ) (s : ℕ) (bs : List ℕ) → op ws s bs .no ≢ 0) → ¬ Demand2Batch op
+  pub refuses-list : (op : RollList) → ((ws : List ℕ) (s : ℕ) (bs l : List ℕ) → op ws s bs l .0 .no ≢ 0) → ¬ Demand2List op
+  pub refuses-shuffle : (op : Shuffle) → ((ws : List ℕ) (s : ℕ) (xs : List ℕ) → op ws s xs .0 .no ≢ 0) → ¬ Demand2Shuffle op
+  pub refuses-sample : (op : Sample) → ((ws : List ℕ) (s : ℕ) (xs : List ℕ) (k : ℕ) (l : List ℕ) → op ws s xs k l .0 .no ≢ 0)
       → ¬ Demand2Sample op
+  pub refuses-sheet : (op : RunSheet) → ((s l : List ℕ) → op s l .0 .no ≢ 0) → (sample : Sample) → ¬ Demand2Sheet op sample
   pub refuses-behind : (op : WordsBehind) → ((bs rs : List ℕ) → op bs rs .no ≢ 0) → ¬ Demand2Behind op
-  pub refuses-order : (op : RollsBehind) → ((ys lent : List ℕ) → op ys lent .0 .no ≢ 0) → ¬ Demand2Order op
+  pub refuses-order : (op : RollsBehind) → ((ys l : List ℕ) → op ys l .0 .no ≢ 0) → ¬ Demand2Order op
   -- fixed rolls
-  pub fixed-batch : (op : RollBatch) (fixed : List ℕ → List ℕ) → ((words : List ℕ) (start : ℕ) (bs : List ℕ) → op words start bs .rolls ≡ fixed bs)
-      → ¬ Demand2Batch op
+  pub fixed-batch : (op : RollBatch) (fixed : List ℕ → List ℕ)
+      → ((ws : List ℕ) (s : ℕ) (bs : List ℕ) → op ws s bs .rolls ≡ fixed bs) → ¬ Demand2Batch op
   pub fixed-list : (op : RollList) (fixed : List ℕ → List ℕ → List ℕ)
-      → ((words : List ℕ) (start : ℕ) (bs lent : List ℕ) → op words start bs lent .1 ≡ fixed bs lent) → ¬ Demand2List op
+      → ((ws : List ℕ) (s : ℕ) (bs l : List ℕ) → op ws s bs l .1 ≡ fixed bs l) → ¬ Demand2List op
   -- a shuffle that moves nothing
   pub nothing-2 : (op : Shuffle) → MovesNothing op → ¬ Demand2Shuffle op
-  pub nothing-3 : (op : Shuffle) → MovesNothing op → (rolls : RollsBehind) (behind : WordsBehind) → MeetsOrder rolls → MeetsBehind behind
-      → ¬ Demand3 op rolls behind
-  -- one that works the first batch only: it fails demand 3 from 8 records on, and not before
+  pub nothing-3 : (op : Shuffle) → MovesNothing op → ¬ Demand3 op rolls behind
+  -- one that works the first batch only: there is such a shuffle; it fails demand 3 from 8 records on, and not before
+  pub first-some : (op : Shuffle) × FirstBatchOnly op
   pub first-2 : (op : Shuffle) → FirstBatchOnly op → ¬ Demand2Shuffle op
-  pub first-3 : (op : Shuffle) → FirstBatchOnly op → (rolls : RollsBehind) (behind : WordsBehind) → MeetsOrder rolls → MeetsBehind behind
-      → (n : ℕ) → 8 ≤ n → n ≤ 16384 → ¬ Demand3At op rolls behind n
-  pub first-3-before : (op : Shuffle) → FirstBatchOnly op → (rolls : RollsBehind) (behind : WordsBehind) → MeetsOrder rolls → MeetsBehind behind
-      → (n : ℕ) → n ≤ 7 → Demand3At op rolls behind n
+  pub first-3 : (op : Shuffle) → FirstBatchOnly op → (n : ℕ) → 8 ≤ n → n ≤ 16384 → ¬ Demand3At op rolls behind n
+  pub first-3-before : (op : Shuffle) → FirstBatchOnly op → (n : ℕ) → n ≤ 7 → Demand3At op rolls behind n
   -- an invented rejected count
   pub count-2 : (op : Shuffle) → Invented op → ¬ Demand2Shuffle op
+
+abbrev pub HoldsStandIns : Type 0
+HoldsStandIns = (rolls : RollsBehind) (behind : WordsBehind) → MeetsOrder rolls → MeetsBehind behind → StandIns rolls behind

@@ -4,9 +4,9 @@
 use hildrasp::oracle::{self, plan::Plan, word};
 use hildrasp::raw::{self, Answer, Batch, Behind, Drawn};
 use std::env;
+use std::fmt::{self, Debug};
 use std::path::Path;
 use std::process::Command;
-use std::fmt::{self, Debug};
 
 /// How many random cases to run, times the number in the environment variable `HILDRASP_CASES`.
 pub fn cases(default: usize) -> usize {
