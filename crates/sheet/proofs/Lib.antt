@@ -1,3 +1,4 @@
 pub mod OneSheet
 pub mod Reading
 pub mod Soundness
+pub mod Spelling

@@ -5,10 +5,12 @@
 --   no-slot, too-many, too-early, in-size     k and w out of range, or in it
 --   refused-drawn, drawn-refused, drawn-done  what the caller sees
 --   done-batch                                an answer that refuses nothing names no batch
-use mathlib.Core.Path.{_≡_, sym, ap, ap₂, _∙_}
+--   drawn-room                                the k that comes back is within the room
+use mathlib.Core.Path.{_≡_, refl, sym, ap, ap₂, _∙_}
 use mathlib.Core.Bool.{Bool, true, false, not, _||_, or-true}
 use mathlib.Core.List.{List, [], _++_}
 use Prim.Native.Nat.{ℕ, _<_, _≤_}
+use native.Mathlib.Omega.{arith}
 use lib.Dec.{ltb}
 use lib.ListN.{length, take}
 use lib.Seq.{take-at}
@@ -21,7 +23,7 @@ use Rattle.draws.specs.Operations.{sample}
 use Rattle.sheet.specs.Sheet.{numbers, entries, wordsOf, recordsOf, isSound}
 use Rattle.sheet.specs.Operations.{runSheet, shownDrawn}
 use Rattle.sheet.specs.declared.run.Drawn.{Drawn}
-use Rattle.sheet.proofs.Soundness.{entries-length}
+use Rattle.sheet.proofs.Soundness.{entries-length, sheet-room}
 
 -- ---- an area, read into the front of an array
 
@@ -106,3 +108,13 @@ module _ (s : List ℕ) (p : Outcome) (before out : List ℕ) (a : Answer) (d : 
   drawn-done (refused n batch) never e f h i = absurd (never n batch e (sym (ap (λ (b : Answer). b .no) (f .0)) ∙ h))
   drawn-done (done values to more) never e f h i =
       (i ∙ ap (λ (b : Answer). shownDrawn s (done [] (b .next) (b .rejected))) (f .0) ∙ ap (shownDrawn s) (sym e), f .1 ∙ ap (left before) (sym e))
+
+-- the k that comes back is never above the room: it is 0 on a refusal
+pub drawn-room : (s : List ℕ) (room : ℕ) (d : Drawn) → d ≡ shownDrawn s (runSheet w64 s room) → d .k ≤ room
+drawn-room s room d e = go (runSheet w64 s room) refl
+  where
+    go : (o : Outcome) → runSheet w64 s room ≡ o → d .k ≤ room
+    go (refused n batch) f = let h : d .k ≡ 0 = ap (λ (x : Drawn). x .k) (e ∙ ap (shownDrawn s) f) in omega arith
+    go (done values to more) f =
+        let h : d .k ≡ numbers s .k = ap (λ (x : Drawn). x .k) (e ∙ ap (shownDrawn s) f) in
+        omega (arith, sheet-room w64 s room values to more f)

@@ -7,6 +7,7 @@
 --   sheet-list                   the draw of any sheet: 1, 3, 6 and 10 are looked for, in this order
 --   sheet-refusal                so a refusal has one of these four numbers
 --   sheet-count, sheet-start     numbers 2 and 9 cannot be met on a sheet
+--   sheet-room                   a draw that was done had room for its k
 use mathlib.Core.Path.{_≡_, refl, sym, ap, ap₂, _∙_}
 use mathlib.Core.Logic.{_↔_, _⊎_, inl, inr}
 use mathlib.Core.Bool.{Bool, true, false, not, _&&_, _||_}
@@ -132,11 +133,11 @@ entries-length size zero at s = refl
 entries-length size (suc c) at s = ap suc (entries-length size c (at + size) s)
 
 module _ (s : List ℕ) (v : Sound s) where
-  pub sheet-words : numbers s .words ≤ 8188
-  sheet-words = omega (arith, v .allowed .1, v .offsets .0, v .within .0)
+  pub sheet-words : length (wordsOf s) ≤ 8188
+  sheet-words = rw (entries-length 8 (numbers s .words) (numbers s .wordsAt) s) (omega (arith, v .allowed .1, v .offsets .0, v .within .0))
 
-  pub sheet-records : numbers s .records ≤ 16377
-  sheet-records = omega (arith, v .allowed .1, v .offsets .1, v .within .1)
+  pub sheet-records : length (recordsOf s) ≤ 16377
+  sheet-records = rw (entries-length 4 (numbers s .records) (numbers s .recordsAt) s) (omega (arith, v .allowed .1, v .offsets .1, v .within .1))
 
 -- ---- the draw of a sheet
 
@@ -155,48 +156,47 @@ passed-over false size early count room start r o f e =
     go false false = refl
 
 module _ (W : Width) (s : List ℕ) (room : ℕ) where
-  abbrev pub plan : ℕ → List (List ℕ)
-  plan n = cut (W .limit) (countup (n - numbers s .k) (numbers s .k + 1))
-
-  abbrev pub ran-sheet : ℕ → Run
-  ran-sheet n = run (W .bits) (plan n) (wordsOf s) 0
-
-  abbrev pub values : ℕ → List ℕ
-  values n = reservoir (take (numbers s .k) (recordsOf s)) (drop (numbers s .k) (recordsOf s)) (rollsOf (W .bits) (plan n) (trace (ran-sheet n)))
-
   -- the draw, with the number of records as the sample counts them
   counted : ℕ → Outcome
   counted n =
+      let h : Numbers = numbers s in
+      let plan : List (List ℕ) = cut (W .limit) (countup (n - h .k) (h .k + 1)) in
+      let rolled : Run = run (W .bits) plan (wordsOf s) 0 in
       decide
       (no 1 (not (isSound s))
-      ∷ no 3 (outside 1 (numbers s .records) (numbers s .k) || ltb (numbers s .k) (numbers s .w))
+      ∷ no 3 (outside 1 (h .records) (h .k) || ltb (h .k) (h .w))
       ∷ [])
       (decide
       (no 2 (outside 0 16384 n)
-      ∷ no 3 (outside 1 n (numbers s .k))
-      ∷ no 6 (ltb room (numbers s .k))
+      ∷ no 3 (outside 1 n (h .k))
+      ∷ no 6 (ltb room (h .k))
       ∷ no 9 (ltb (length (wordsOf s)) 0)
-      ∷ noWord (ran-sheet n)
+      ∷ noWord rolled
       ∷ [])
-      (used 0 (ran-sheet n) (values n)))
+      (used 0 rolled (reservoir (take (h .k) (recordsOf s)) (drop (h .k) (recordsOf s)) (rollsOf (W .bits) plan (trace rolled)))))
 
-  pub sheet-list : runSheet W s room
+  pub sheet-list : let h : Numbers = numbers s in
+      let plan : List (List ℕ) = cut (W .limit) (countup (h .records - h .k) (h .k + 1)) in
+      let rolled : Run = run (W .bits) plan (wordsOf s) 0 in
+      runSheet W s room
       ≡ decide
       (no 1 (not (isSound s))
-      ∷ no 3 (outside 1 (numbers s .records) (numbers s .k) || ltb (numbers s .k) (numbers s .w))
-      ∷ no 6 (ltb room (numbers s .k))
-      ∷ noWord (ran-sheet (numbers s .records))
+      ∷ no 3 (outside 1 (h .records) (h .k) || ltb (h .k) (h .w))
+      ∷ no 6 (ltb room (h .k))
+      ∷ noWord rolled
       ∷ [])
-      (used 0 (ran-sheet (numbers s .records)) (values (numbers s .records)))
+      (used 0 rolled (reservoir (take (h .k) (recordsOf s)) (drop (h .k) (recordsOf s)) (rollsOf (W .bits) plan (trace rolled))))
   unfolding runSheet sample counted
   sheet-list =
-      ap counted (entries-length 4 (numbers s .records) (numbers s .recordsAt) s)
-      ∙ passed-over (not (isSound s)) (outside 1 (numbers s .records) (numbers s .k)) (ltb (numbers s .k) (numbers s .w))
-      (outside 0 16384 (numbers s .records)) (ltb room (numbers s .k)) (ltb (length (wordsOf s)) 0) _ _
-      few (le-ltb (length (wordsOf s)) 0 (omega arith))
+      let h : Numbers = numbers s in
+      ap counted (entries-length 4 (h .records) (h .recordsAt) s)
+      ∙ passed-over (not (isSound s)) (outside 1 (h .records) (h .k)) (ltb (h .k) (h .w)) (outside 0 16384 (h .records)) (ltb room (h .k))
+      (ltb (length (wordsOf s)) 0) _ _ few (le-ltb (length (wordsOf s)) 0 (omega arith))
     where
       few : not (isSound s) ≡ false → outside 0 16384 (numbers s .records) ≡ false
-      few e = in-count 0 16384 (numbers s .records) (omega arith) (omega (arith, sheet-records s (sound-known s (not-false _ e))))
+      few e =
+          in-count 0 16384 (numbers s .records) (omega arith)
+          (omega (arith, sheet-records s (sound-known s (not-false _ e)), entries-length 4 (numbers s .records) (numbers s .recordsAt) s))
 
 -- ---- the numbers of a refusal
 
@@ -218,9 +218,11 @@ abbrev pub OneOfFour : ℕ → Type 0
 OneOfFour n = (n ≡ 1) ⊎ ((n ≡ 3) ⊎ ((n ≡ 6) ⊎ (n ≡ 10)))
 
 pub sheet-refusal : (W : Width) (s : List ℕ) (room n batch : ℕ) → runSheet W s room ≡ refused n batch → OneOfFour n
-sheet-refusal W s room n batch e = go (ran-sheet W s room (numbers s .records)) (given _ _ _ _ n batch (sym (sheet-list W s room) ∙ e))
+sheet-refusal W s room n batch e =
+    let h : Numbers = numbers s in
+    go (run (W .bits) (cut (W .limit) (countup (h .records - h .k) (h .k + 1))) (wordsOf s) 0) (given _ _ _ _ n batch (sym (sheet-list W s room) ∙ e))
   where
-    go : (r : Run) → (n ≡ 1) ⊎ ((n ≡ 3) ⊎ ((n ≡ 6) ⊎ ((n ≡ noWord r .number) ⊎ ⊥))) → OneOfFour n
+    go : (r : Run) → Among n (no 1 (not (isSound s)) ∷ no 3 false ∷ no 6 false ∷ noWord r ∷ []) → OneOfFour n
     go r (inl f) = inl f
     go r (inr (inl f)) = inr (inl f)
     go r (inr (inr (inl f))) = inr (inr (inl f))
@@ -240,3 +242,15 @@ sheet-count W s room batch e = four-only 2 (sheet-refusal W s room 2 batch e) .1
 
 pub sheet-start : (W : Width) (s : List ℕ) (room batch : ℕ) → runSheet W s room ≡ refused 9 batch → ⊥
 sheet-start W s room batch e = four-only 9 (sheet-refusal W s room 9 batch e) .2 refl
+
+-- a draw that was done had room for its k
+room-known : (unsound size small : Bool) (r : Refusal) (o : Outcome) (drawn : List ℕ) (to more : ℕ)
+    → decide (no 1 unsound ∷ no 3 size ∷ no 6 small ∷ r ∷ []) o ≡ done drawn to more → small ≡ false
+unfolding decide
+room-known true size small r o drawn to more e = absurd (let z : _≡_ {A = ℕ} 0 1 = cc in let n : ⊥ = omega arith in n)
+room-known false true small r o drawn to more e = absurd (let z : _≡_ {A = ℕ} 0 1 = cc in let n : ⊥ = omega arith in n)
+room-known false false true r o drawn to more e = absurd (let z : _≡_ {A = ℕ} 0 1 = cc in let n : ⊥ = omega arith in n)
+room-known false false false r o drawn to more e = refl
+
+pub sheet-room : (W : Width) (s : List ℕ) (room : ℕ) (drawn : List ℕ) (to more : ℕ) → runSheet W s room ≡ done drawn to more → numbers s .k ≤ room
+sheet-room W s room drawn to more e = ltb-false room (numbers s .k) (room-known _ _ _ _ _ drawn to more (sym (sheet-list W s room) ∙ e))

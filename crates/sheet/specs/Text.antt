@@ -1,0 +1,55 @@
+-- The lines that the draw-sheet program prints, in ASCII.
+--
+--   digits c n                  n in decimal, or its last c digits where it has more
+--   decimal n                   n in decimal, with no zeros in front; 0 is `0`
+--   line fields                 the fields, parted by one blank, and a line feed
+--   drawLine n k used rejected  `draw`, the count of records, k, the words used, the words rejected
+--   slotLine w slot x           the number of the slot, from 1, its record x, and `early` for the first w slots, else `late`
+--   refusedLine number batch    `refused`, the number of the refusal, and the batch
+--   put out at bs               the list out with the bytes bs at a place
+use mathlib.Core.Bool.{true, false}
+use mathlib.Core.List.{List, [], _∷_, _++_}
+use Prim.Native.Nat.{ℕ, zero, suc, _+_, _/_, _%_}
+use lib.Dec.{ltb}
+use lib.ListN.{length, take, drop}
+
+-- the digits of n / 10, and then the last one; 48 is the code of `0`
+unfoldable pub digits : ℕ → ℕ → List ℕ
+digits zero n = []
+digits (suc c) n = elim (ltb n 10) [ true ↦ (48 + n) ∷ [] | false ↦ digits c (n / 10) ++ (48 + n % 10) ∷ [] ]
+
+-- n has at most n + 1 digits
+abbrev pub decimal : ℕ → List ℕ
+decimal n = digits (n + 1) n
+
+-- Fields are parted by one blank (32) and each line ends with a line feed (10).
+unfoldable pub line : List (List ℕ) → List ℕ
+line [] = 10 ∷ []
+line (f ∷ []) = f ++ 10 ∷ []
+line (f ∷ g ∷ fs) = f ++ 32 ∷ line (g ∷ fs)
+
+abbrev pub draw : List ℕ
+draw = 100 ∷ 114 ∷ 97 ∷ 119 ∷ []
+
+abbrev pub refused : List ℕ
+refused = 114 ∷ 101 ∷ 102 ∷ 117 ∷ 115 ∷ 101 ∷ 100 ∷ []
+
+abbrev pub early : List ℕ
+early = 101 ∷ 97 ∷ 114 ∷ 108 ∷ 121 ∷ []
+
+abbrev pub late : List ℕ
+late = 108 ∷ 97 ∷ 116 ∷ 101 ∷ []
+
+abbrev pub drawLine : ℕ → ℕ → ℕ → ℕ → List ℕ
+drawLine n k used rejected = line (draw ∷ decimal n ∷ decimal k ∷ decimal used ∷ decimal rejected ∷ [])
+
+abbrev pub slotLine : ℕ → ℕ → ℕ → List ℕ
+slotLine w slot x = line (decimal (slot + 1) ∷ decimal x ∷ elim (ltb slot w) [ true ↦ early | false ↦ late ] ∷ [])
+
+abbrev pub refusedLine : ℕ → ℕ → List ℕ
+refusedLine number batch = line (refused ∷ decimal number ∷ decimal batch ∷ [])
+
+-- ---- what inner contracts cite
+
+abbrev pub put : List ℕ → ℕ → List ℕ → List ℕ
+put out at bs = take at out ++ (bs ++ drop (at + length bs) out)
