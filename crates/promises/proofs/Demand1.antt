@@ -1,15 +1,14 @@
 -- Demand 1, operation by operation: each outcome is decided by the list that the statement names. On a sheet the refusals 2 and 9 of the
 -- sample cannot be met, since a sound sheet has room for 16,377 records at most and the start is 0. Assumes nothing.
 use mathlib.Core.Path.{_≡_, refl, sym, ap, _∙_}
-use mathlib.Core.Logic.{_↔_}
-use mathlib.Core.Bool.{Bool, true, false, not, _&&_, _||_}
+use mathlib.Core.Bool.{Bool, true, false, not, _||_}
 use mathlib.Core.List.{List, [], _∷_}
-use Prim.Native.Nat.{ℕ, zero, suc, _+_, _<_, _≤_, zero-le, min, max}
+use Prim.Native.Nat.{ℕ, suc, _+_, _<_, _≤_, zero-le}
 use native.Mathlib.Numerals.{add-one}
 use native.Mathlib.Omega.{arith}
-use lib.Dec.{T, ltb, leb, leb→le, le→leb, ltb→lt, nltb→le, not-T}
+use lib.Dec.{T, ltb}
 use lib.ListN.{length, take, drop}
-use borrow.Author.Tests.{le-ltb, ltb-false, not-true, not-false}
+use borrow.Author.Tests.{le-ltb, not-false}
 use Rattle.arithmetic.specs.Rolls.{accepted}
 use Rattle.arithmetic.specs.Width.{w64}
 use Rattle.rolls.specs.Run.{Found, found, missing, find, Run, run, runFrom, ran, short, after, trace, rollsOf}
@@ -20,8 +19,9 @@ use Rattle.rolls.proofs.Deciding.{decide-past, decide-none, in-count}
 use Rattle.rolls.proofs.Running.{run-hit, run-missing}
 use Rattle.draws.specs.Sample.{reservoir}
 use Rattle.draws.specs.Operations.{shuffle, sample, rollsBehind}
-use Rattle.sheet.specs.Sheet.{numbers, entries, wordsOf, recordsOf, wordsEnd, recordsEnd, Sound, isSound, Numbers}
+use Rattle.sheet.specs.Sheet.{numbers, wordsOf, recordsOf, isSound}
 use Rattle.sheet.specs.Operations.{runSheet, shownDrawn}
+use Rattle.sheet.proofs.Soundness.{sound-iff, sound-known, entries-length}
 use Rattle.rolls.specs.declared.answer.Answer.{Answer}
 use Rattle.rolls.specs.declared.answer.Batch.{Batch}
 use Rattle.rolls.specs.declared.answer.Behind.{Behind}
@@ -29,78 +29,17 @@ use Rattle.sheet.specs.declared.run.Drawn.{Drawn}
 use Rattle.promises.specs.Contracts.{seen}
 use Rattle.promises.specs.Demand1.{samplePlan, batchRefusals, listRefusals, shuffleRefusals, sampleRefusals, behindRefusals}
 use Rattle.promises.specs.Demand1.{orderRefusals, sheetRefusals, batchSaying, answerSaying, behindSaying, drawnSaying, AsRefused, Demand1}
-use Rattle.promises.proofs.Refusing.{truth, as-refused, decide-under}
+use Rattle.promises.proofs.Refusing.{as-refused, decide-under}
 
--- ---- when a sheet is sound, and its refusals
+-- ---- the refusals of a sheet
 
 pub neither : (a b : Bool) → (a || b) ≡ false → (a ≡ false) × (b ≡ false)
 neither true b e = (e, cc)
 neither false b e = (refl, e)
 
-entries-length : (size c at : ℕ) (s : List ℕ) → length (entries size c at s) ≡ c
-unfolding entries
-entries-length size zero at s = refl
-entries-length size (suc c) at s = ap suc (entries-length size c (at + size) s)
-
-both : (a b : Bool) → T (a && b) ↔ (T a × T b)
-both true b = (λ t. (tt, t), λ t. t .1)
-both false b = (λ t. absurd t, λ t. absurd (t .0))
-
-within : (low high n : ℕ) → T (not (outside low high n)) ↔ ((low ≤ n) × (n ≤ high))
-within low high n = (
-  λ t. let (e, f) = neither (ltb n low) (ltb high n) (not-true _ (truth _ t)) in (ltb-false n low e, ltb-false high n f),
-  λ (h, k). rw (in-count low high n h k) tt,
-)
-
--- two areas share a byte exactly where the later start is before the earlier end
-apart : (a b c d : ℕ) → T (not (ltb (max a b) (min c d))) ↔ ((byte : ℕ) → (a ≤ byte) × (byte < c) → (b ≤ byte) × (byte < d) → ⊥)
-apart a b c d = (
-  λ t byte h k. let l = nltb→le (max a b) (min c d) t in omega arith,
-  λ f. not-T (ltb (max a b) (min c d)) (λ t. let l = ltb→lt (max a b) (min c d) t in f (max a b) (omega arith) (omega arith)),
-)
-
-sound : (s : List ℕ) → T (isSound s) ↔ Sound s
-sound s =
-    let h : Numbers = numbers s in
-    let a : Bool = not (outside 24 65535 (length s)) in
-    let b : Bool = leb 24 (h .wordsAt) in
-    let c : Bool = leb 24 (h .recordsAt) in
-    let d : Bool = leb (wordsEnd h) (length s) in
-    let e : Bool = leb (recordsEnd h) (length s) in
-    let f : Bool = not (ltb (max (h .wordsAt) (h .recordsAt)) (min (wordsEnd h) (recordsEnd h))) in
-    let none-shared = apart (h .wordsAt) (h .recordsAt) (wordsEnd h) (recordsEnd h) in (
-      λ t.
-          let (u, x) = both (a && b && c && d && e) f .0 t in
-          let (v, y) = both (a && b && c && d) e .0 u in
-          let (w, z) = both (a && b && c) d .0 v in
-          let (p, q) = both (a && b) c .0 w in
-          let (m, n) = both a b .0 p in
-          record {
-            allowed = within 24 65535 (length s) .0 m;
-            offsets = (leb→le 24 (h .wordsAt) n, leb→le 24 (h .recordsAt) q);
-            within = (leb→le (wordsEnd h) (length s) z, leb→le (recordsEnd h) (length s) y);
-            apart = none-shared .0 x;
-          },
-      λ r.
-          both (a && b && c && d && e) f .1 (
-            both (a && b && c && d) e .1 (
-              both (a && b && c) d .1 (
-                both (a && b) c .1 (
-                  both a b .1
-                      (within 24 65535 (length s) .1 (r .allowed), le→leb 24 (h .wordsAt) (r .offsets .0)),
-                  le→leb 24 (h .recordsAt) (r .offsets .1),
-                ),
-                le→leb (wordsEnd h) (length s) (r .within .0),
-              ),
-              le→leb (recordsEnd h) (length s) (r .within .1),
-            ),
-            none-shared .1 (r .apart),
-          ),
-    )
-
 -- (65,535 - 24) / 4 records at most
 few-records : (s : List ℕ) → isSound s ≡ true → numbers s .records ≤ 16384
-few-records s e = let r = sound s .0 (rw e tt) in omega (arith, r .allowed, r .offsets, r .within)
+few-records s e = let r = sound-known s e in omega (arith, r .allowed, r .offsets, r .within)
 
 -- the sample from start 0, where its numbers 2 and 3 do not apply
 module _ (words xs : List ℕ) (k room n : ℕ) where
@@ -226,5 +165,5 @@ demand1 = record {
       (sheetRefusals s (length lent)) (op s lent)
       (m s lent ∙ ap (drawnBeside s lent) (sheet-decides s (length lent)));
   first-short = first-short;
-  sound = sound;
+  sound = sound-iff;
 }
