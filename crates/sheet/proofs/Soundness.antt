@@ -1,11 +1,12 @@
 -- When a sheet is sound, and what its draw can be refused by. Assumes nothing.
 --
 --   sound-iff                    the test is the sentence of document 01, both ways
---   sound-true, sound-false      the test's answer, from the sentence
+--   sound-true, -false, -known   the test's answer from the sentence, and the sentence from the answer
+--   sound-rest                   the last test, where all others passed
 --   entries-length               an area has as many entries as its count
 --   sheet-words, sheet-records   a sound sheet has at most 8,188 words and at most 16,377 records
 --   sheet-list                   the draw of any sheet: 1, 3, 6 and 10 are looked for, in this order
---   sheet-refusal                so a refusal has one of these four numbers
+--   sheet-refusal, four-only     so a refusal has one of these four numbers
 --   sheet-count, sheet-start     numbers 2 and 9 cannot be met on a sheet
 --   sheet-room                   a draw that was done had room for its k
 use mathlib.Core.Path.{_≡_, refl, sym, ap, ap₂, _∙_}

@@ -3,6 +3,7 @@
 --   digits c n                  n in decimal, or its last c digits where it has more
 --   decimal n                   n in decimal, with no zeros in front; 0 is `0`
 --   line fields                 the fields, parted by one blank, and a line feed
+--   drawText, refusedText, ..   the texts `draw`, `refused`, `early`, `late`
 --   drawLine n k used rejected  `draw`, the count of records, k, the words used, the words rejected
 --   slotLine w slot x           the number of the slot, from 1, its record x, and `early` for the first w slots, else `late`
 --   refusedLine number batch    `refused`, the number of the refusal, and the batch
@@ -28,26 +29,26 @@ line [] = 10 ∷ []
 line (f ∷ []) = f ++ 10 ∷ []
 line (f ∷ g ∷ fs) = f ++ 32 ∷ line (g ∷ fs)
 
-abbrev pub draw : List ℕ
-draw = 100 ∷ 114 ∷ 97 ∷ 119 ∷ []
+abbrev pub drawText : List ℕ
+drawText = 100 ∷ 114 ∷ 97 ∷ 119 ∷ []
 
-abbrev pub refused : List ℕ
-refused = 114 ∷ 101 ∷ 102 ∷ 117 ∷ 115 ∷ 101 ∷ 100 ∷ []
+abbrev pub refusedText : List ℕ
+refusedText = 114 ∷ 101 ∷ 102 ∷ 117 ∷ 115 ∷ 101 ∷ 100 ∷ []
 
-abbrev pub early : List ℕ
-early = 101 ∷ 97 ∷ 114 ∷ 108 ∷ 121 ∷ []
+abbrev pub earlyText : List ℕ
+earlyText = 101 ∷ 97 ∷ 114 ∷ 108 ∷ 121 ∷ []
 
-abbrev pub late : List ℕ
-late = 108 ∷ 97 ∷ 116 ∷ 101 ∷ []
+abbrev pub lateText : List ℕ
+lateText = 108 ∷ 97 ∷ 116 ∷ 101 ∷ []
 
 abbrev pub drawLine : ℕ → ℕ → ℕ → ℕ → List ℕ
-drawLine n k used rejected = line (draw ∷ decimal n ∷ decimal k ∷ decimal used ∷ decimal rejected ∷ [])
+drawLine n k used rejected = line (drawText ∷ decimal n ∷ decimal k ∷ decimal used ∷ decimal rejected ∷ [])
 
 abbrev pub slotLine : ℕ → ℕ → ℕ → List ℕ
-slotLine w slot x = line (decimal (slot + 1) ∷ decimal x ∷ elim (ltb slot w) [ true ↦ early | false ↦ late ] ∷ [])
+slotLine w slot x = line (decimal (slot + 1) ∷ decimal x ∷ elim (ltb slot w) [ true ↦ earlyText | false ↦ lateText ] ∷ [])
 
 abbrev pub refusedLine : ℕ → ℕ → List ℕ
-refusedLine number batch = line (refused ∷ decimal number ∷ decimal batch ∷ [])
+refusedLine number batch = line (refusedText ∷ decimal number ∷ decimal batch ∷ [])
 
 -- ---- what inner contracts cite
 

@@ -27,11 +27,11 @@ fn put_decimal(n: u64, out: &mut [u8], at: usize) -> usize
     ensures { λ r. ⌜ (r ≡ at + length (decimal n)) × (now (out .exit) ≡ put (now (out .entry)) at (decimal n)) ⌝ }
 {
     if n < 10 {
-        out[at] = 48 + n as u8;
+        out[at] = b'0' + n as u8;
         return at + 1;
     }
     let end = put_decimal(n / 10, out, at);
-    out[end] = 48 + (n % 10) as u8;
+    out[end] = b'0' + (n % 10) as u8;
     end + 1
 }
 

@@ -3,7 +3,7 @@
 use mathlib.Core.List.{List, [], _∷_, _++_, append-assoc}
 use Prim.Native.Nat.{ℕ}
 use native.Mathlib.Omega.{arith}
-use Rattle.sheet.specs.Text.{decimal, line, draw, drawLine}
+use Rattle.sheet.specs.Text.{decimal, line, drawText, drawLine}
 use Rattle.sheet.proofs.Spelling.{So-far, nothing, room, added, field-room, field-added, ended}
 use borrow.Author.Needs.{needs}
 use Rattle.sheet.proofs.text.draw_line.Statement.{statement}
@@ -11,7 +11,7 @@ use Rattle.sheet.proofs.text.draw_line.Tie as tie
 
 -- the bytes after each call, and the function's entry from there
 abbrev bytes1 : tie.Start → List ℕ
-bytes1 s = draw
+bytes1 s = drawText
 
 abbrev bytes2 : tie.Start → List ℕ
 bytes2 s = bytes1 s ++ 32 ∷ decimal (s .args .n)
@@ -41,7 +41,7 @@ abbrev from5 : tie.After-put-field4 → tie.Start
 from5 c = from4 (c .before .before .before .before)
 
 so-far1 : (c : tie.After-put-text) → So-far 4 (from1 c .args .out .now) (c .put-text .last .1 .0) (c .put-text .result) (bytes1 (from1 c))
-so-far1 c = added (nothing (from1 c .args .out .now) (from1 c .pre)) draw (omega arith) (c .put-text .ensures)
+so-far1 c = added (nothing (from1 c .args .out .now) (from1 c .pre)) drawText (omega arith) (c .put-text .ensures)
 
 so-far2 : (c : tie.After-put-field) → So-far 25 (from2 c .args .out .now) (c .put-field .last .1 .0) (c .put-field .result) (bytes2 (from2 c))
 so-far2 c = field-added (so-far1 (c .before .before .before .before)) _ (from2 c .fits .n .fits) (omega arith) (c .put-field .ensures)

@@ -3,7 +3,7 @@
 use mathlib.Core.List.{List, [], _∷_, _++_, append-assoc}
 use Prim.Native.Nat.{ℕ}
 use native.Mathlib.Omega.{arith}
-use Rattle.sheet.specs.Text.{decimal, line, refused, refusedLine}
+use Rattle.sheet.specs.Text.{decimal, line, refusedText, refusedLine}
 use Rattle.sheet.proofs.Spelling.{So-far, nothing, room, added, field-room, field-added, ended}
 use borrow.Author.Needs.{needs}
 use Rattle.sheet.proofs.text.refused_line.Statement.{statement}
@@ -11,7 +11,7 @@ use Rattle.sheet.proofs.text.refused_line.Tie as tie
 
 -- the bytes after each call, and the function's entry from there
 abbrev bytes1 : tie.Start → List ℕ
-bytes1 s = refused
+bytes1 s = refusedText
 
 abbrev bytes2 : tie.Start → List ℕ
 bytes2 s = bytes1 s ++ 32 ∷ decimal (s .args .number)
@@ -29,7 +29,7 @@ abbrev from3 : tie.After-put-field2 → tie.Start
 from3 c = from2 (c .before .before .before .before)
 
 so-far1 : (c : tie.After-put-text) → So-far 7 (from1 c .args .out .now) (c .put-text .last .1 .0) (c .put-text .result) (bytes1 (from1 c))
-so-far1 c = added (nothing (from1 c .args .out .now) (from1 c .pre)) refused (omega arith) (c .put-text .ensures)
+so-far1 c = added (nothing (from1 c .args .out .now) (from1 c .pre)) refusedText (omega arith) (c .put-text .ensures)
 
 so-far2 : (c : tie.After-put-field) → So-far 28 (from2 c .args .out .now) (c .put-field .last .1 .0) (c .put-field .result) (bytes2 (from2 c))
 so-far2 c = field-added (so-far1 (c .before .before .before .before)) _ (from2 c .fits .number .fits) (omega arith) (c .put-field .ensures)

@@ -4,7 +4,7 @@ use mathlib.Core.List.{List, [], _∷_, _++_, append-assoc}
 use Prim.Native.Nat.{ℕ, _+_}
 use native.Mathlib.Omega.{arith}
 use borrow.Author.Tests.{lt-ltb, le-ltb}
-use Rattle.sheet.specs.Text.{decimal, line, early, late, slotLine}
+use Rattle.sheet.specs.Text.{decimal, line, earlyText, lateText, slotLine}
 use Rattle.sheet.proofs.Spelling.{So-far, first-room, first-added, room, added, field-room, field-added, ended}
 use borrow.Author.Needs.{needs}
 use Rattle.sheet.proofs.text.slot_line.Statement.{statement}
@@ -42,7 +42,7 @@ slice-aggregate-put-text : tie.Need-slice-aggregate-put-text
 slice-aggregate-put-text c = search needs
 
 put-text-requires : tie.Need-put-text-requires
-put-text-requires c κs = room (so-far2 (c .before .before .before .before .before)) (32 ∷ early ++ 10 ∷ []) (omega arith)
+put-text-requires c κs = room (so-far2 (c .before .before .before .before .before)) (32 ∷ earlyText ++ 10 ∷ []) (omega arith)
 
 same-length : tie.Need-same-length
 same-length c = search needs
@@ -52,14 +52,14 @@ unfolding line
 returns c =
     let b = c .before .before .before .before .before .before .before .before in
     let a = from2 b .args in
-    ended (added (so-far2 b) (32 ∷ early ++ 10 ∷ []) (omega arith) (c .before .before .put-text .ensures)) (slotLine (a .w) (a .slot) (a .«record»))
+    ended (added (so-far2 b) (32 ∷ earlyText ++ 10 ∷ []) (omega arith) (c .before .before .put-text .ensures)) (slotLine (a .w) (a .slot) (a .«record»))
     (rw (lt-ltb (a .slot) (a .w) (c .before .before .before .before .before .if1 .taken)) (simp append-assoc))
 
 slice-aggregate-put-text-2 : tie.Need-slice-aggregate-put-text-2
 slice-aggregate-put-text-2 c = search needs
 
 put-text-requires-2 : tie.Need-put-text-requires-2
-put-text-requires-2 c κs = room (so-far2 (c .before .before .before .before .before)) (32 ∷ late ++ 10 ∷ []) (omega arith)
+put-text-requires-2 c κs = room (so-far2 (c .before .before .before .before .before)) (32 ∷ lateText ++ 10 ∷ []) (omega arith)
 
 same-length-2 : tie.Need-same-length-2
 same-length-2 c = search needs
@@ -69,7 +69,7 @@ unfolding line
 returns-2 c =
     let b = c .before .before .before .before .before .before .before .before in
     let a = from2 b .args in
-    ended (added (so-far2 b) (32 ∷ late ++ 10 ∷ []) (omega arith) (c .before .before .put-text2 .ensures)) (slotLine (a .w) (a .slot) (a .«record»))
+    ended (added (so-far2 b) (32 ∷ lateText ++ 10 ∷ []) (omega arith) (c .before .before .put-text2 .ensures)) (slotLine (a .w) (a .slot) (a .«record»))
     (rw (le-ltb (a .slot) (a .w) (c .before .before .before .before .before .if1 .left)) (simp append-assoc))
 
 pub slot-line-spec : {M : Type 1} → statement M
