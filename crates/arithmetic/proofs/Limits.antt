@@ -11,8 +11,8 @@ use lib.Arith.{lt-of-le-ne}
 use lib.ListN.{length, take, drop, getD, drop-of-length-le}
 use lib.Seq.{take-suc, drop-cons}
 use borrow.Author.Tests.{leb-true, leb-false, le-leb, lt-leb, lt-ltb, le-ltb, eq-eqb, ne-eqb, eqb-true, eqb-false, ltb-true, ltb-false}
-use Rattle.arithmetic.specs.Rolls.{product}
-use Rattle.arithmetic.specs.Products.{against, grown, hasZero}
+use Rattle.arithmetic.specs.Rolls.{product, hasZero}
+use Rattle.arithmetic.specs.Products.{against, grown}
 use Rattle.arithmetic.specs.declared.bounds.Product.{Product}
 use Rattle.arithmetic.specs.declared.bounds.Product.the-variants.{Below, Whole, Above}
 

@@ -5,15 +5,16 @@
 --   product bs           b, the product of the bounds
 --   threshold L b        t
 --   accepted L bs word   whether the word is accepted
+--   hasZero bs           whether some bound is 0
 --   inRange bs rs        whether rs is one roll for each bound, each below its bound
 --   value bs rs          the rolls read as one mixed-radix number, the first roll most significant
 --   up x b               x / b, rounded up
 --   firstWord L bs rs    the first word of the run behind the rolls rs
 --   lastWord L bs rs     the last one
-use mathlib.Core.Bool.{Bool, true, false, _&&_}
+use mathlib.Core.Bool.{Bool, true, false, _&&_, _||_}
 use mathlib.Core.List.{List, [], _∷_}
 use Prim.Native.Nat.{ℕ, _+_, _-_, _*_, _/_, _%_, _^_}
-use lib.Dec.{leb, ltb}
+use lib.Dec.{leb, ltb, eqb}
 
 -- For each bound in turn, bound times r equals 2^L times the roll plus the new r, with the new r below 2^L.
 unfoldable pub rolls : ℕ → List ℕ → ℕ → List ℕ
@@ -34,6 +35,10 @@ threshold L b = 2 ^ L % b
 -- The word is accepted exactly when the last r is at least t.
 abbrev pub accepted : ℕ → List ℕ → ℕ → Bool
 accepted L bs word = leb (threshold L (product bs)) (rest L bs word)
+
+unfoldable pub hasZero : List ℕ → Bool
+hasZero [] = false
+hasZero (b ∷ bs) = eqb b 0 || hasZero bs
 
 unfoldable pub inRange : List ℕ → List ℕ → Bool
 inRange [] [] = true

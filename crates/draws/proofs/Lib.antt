@@ -8,5 +8,6 @@ pub mod Orders
 pub mod Placing
 pub mod Plans
 pub mod Reach
+pub mod Runs
 pub mod Sampling
 pub mod Shuffling

@@ -1,5 +1,5 @@
 -- A sample, refusal by refusal. Assumes nothing.
-use mathlib.Core.Path.{_≡_, refl, sym, ap, ap₂, _∙_}
+use mathlib.Core.Path.{_≡_, refl, ap, _∙_}
 use mathlib.Core.Bool.{Bool, true, false}
 use mathlib.Core.List.{List, [], _∷_}
 use Prim.Native.Nat.{ℕ, _+_, _-_, _^_, _<_, _≤_}
@@ -7,12 +7,12 @@ use lib.Dec.{ltb}
 use lib.ListN.{length, take, drop, set, length-set}
 use lib.Seq.{length-take-le}
 use Rattle.arithmetic.specs.Width.{w64}
-use Rattle.rolls.specs.Run.{Run, run, trace, rollsOf}
+use Rattle.rolls.specs.Run.{run, trace, rollsOf}
 use Rattle.rolls.specs.Cut.{cut}
-use Rattle.rolls.specs.Outcome.{refused, done, no, noWord, decide, used, outside}
+use Rattle.rolls.specs.Outcome.{refused, done, decide, outside, ofWords, fromRun}
 use Rattle.rolls.specs.Inner.{supplied}
 use Rattle.rolls.specs.declared.supply.Supply.the-variants.{Enough, Short}
-use Rattle.rolls.proofs.Deciding.{decide-here, decide-past, no-start, no-words, words-done, supplied-enough, supplied-short}
+use Rattle.rolls.proofs.Deciding.{decide-here, decide-past, no-start, words-short, words-drawn}
 use Rattle.draws.specs.Sample.{countup, reservoir}
 use Rattle.draws.specs.Operations.{sample}
 
@@ -35,37 +35,26 @@ module _ (words : List ℕ) (start : ℕ) (xs : List ℕ) (k room : ℕ) where
         plan : List (List ℕ)
         plan = cut (2 ^ 56) (countup (length xs - k) (k + 1))
 
-        ran-sample : Run
-        ran-sample = run 64 plan words start
-
-        values : List ℕ
-        values = reservoir (take k xs) (drop k xs) (rollsOf 64 plan (trace ran-sample))
-
-        rest : sample w64 words start xs k room ≡ decide (no 9 (ltb (length words) start) ∷ noWord ran-sample ∷ []) (used start ran-sample values)
-        unfolding sample plan ran-sample values
+        rest : sample w64 words start xs k room ≡ decide (ofWords 64 plan words start) (fromRun 64 plan words start (reservoir (take k xs) (drop k xs)))
+        unfolding sample plan
         rest = decide-past _ _ _ count ∙ decide-past _ _ _ size ∙ decide-past _ _ _ fits
 
         pub sample-start : length words < start → sample w64 words start xs k room ≡ refused 9 0
-        sample-start h = rest ∙ no-start words start ran-sample _ h
+        sample-start h = rest ∙ no-start 64 plan words start _ h
 
         -- with the bounds laid out
         module _ (h : start ≤ length words) (bs : List ℕ) (b : bs ≡ countup (length xs - k) (k + 1)) where
-          same : run 64 (cut (2 ^ 56) bs) words start ≡ ran-sample
-          unfolding plan ran-sample
-          same = ap (λ (l : List ℕ). run 64 (cut (2 ^ 56) l) words start) b
+          same : cut (2 ^ 56) bs ≡ plan
+          unfolding plan
+          same = ap (cut (2 ^ 56)) b
 
           pub sample-short : (j : ℕ) → supplied start (run 64 (cut (2 ^ 56) bs) words start) ≡ Short j → sample w64 words start xs k room ≡ refused 10 j
-          sample-short j e = rest ∙ no-words words start ran-sample _ h j (sym same ∙ supplied-short start _ j e)
+          sample-short j e = rest ∙ words-short 64 plan words start _ h j (rw (← same) e)
 
           pub sample-done : (to more : ℕ) → supplied start (run 64 (cut (2 ^ 56) bs) words start) ≡ Enough to more
               → sample w64 words start xs k room
               ≡ done (reservoir (take k xs) (drop k xs) (rollsOf 64 (cut (2 ^ 56) bs) (trace (run 64 (cut (2 ^ 56) bs) words start)))) to more
-          unfolding plan ran-sample values
-          sample-done to more e =
-              let known = supplied-enough start ran-sample to more (ap (supplied start) (sym same) ∙ e) in
-              rest ∙ words-done words start ran-sample _ h (known .enough)
-              ∙ ap₂ (done values) (known .place) (known .passed)
-              ∙ ap (λ (l : List ℕ). done (reservoir (take k xs) (drop k xs) (rollsOf 64 (cut (2 ^ 56) l) (trace (run 64 (cut (2 ^ 56) l) words start)))) to more) (sym b)
+          sample-done to more e = rest ∙ rw (← same) (words-drawn 64 (cut (2 ^ 56) bs) words start (reservoir (take k xs) (drop k xs)) h to more e)
 
 -- ---- as many values as slots
 

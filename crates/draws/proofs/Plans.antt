@@ -5,6 +5,8 @@
 --   countup-length, countup-at, countup-pos  i, i + 1, .., s of them
 --   shuffle-bounds-length                    a shuffle of n records has n - 1 bounds
 --   no-bounds, bounds-cons                   none for 0 or 1 record; else m, and those of m - 1 records
+--   Bounded most bs                          each bound is from 1 to most
+--   GoodSize size most m, GoodSizes ..       with m records still to place the next batch leaves one or more and can be rolled; so up to top
 --   sizes-more                               sizes that serve a limit serve a larger one
 --   shuffle-plan                             the batches of a shuffle are n, n - 1, .., 2
 --   plan-end, plan-step                      its first batch, and the batches of the records that are left
@@ -28,7 +30,17 @@ use Rattle.arithmetic.proofs.Limits.{product-snoc}
 use Rattle.rolls.specs.Cut.{joins, cutFrom, cut}
 use Rattle.draws.specs.Shuffle.{countdown, shuffleBounds, shufflePlanFrom, shufflePlan}
 use Rattle.draws.specs.Sample.{countup}
-use Rattle.draws.specs.Plan.{joined, Rollable, PlanOf, Bounded, GoodSize, GoodSizes}
+use Rattle.draws.specs.Plan.{joined, Rollable, PlanOf}
+
+abbrev pub Bounded : ℕ → List ℕ → Type 0
+Bounded most bs = (i : ℕ) → i < length bs → (0 < getD bs i 0) × (getD bs i 0 ≤ most)
+
+pub record GoodSize (size : ℕ → ℕ) (most m : ℕ) : Type 0 where
+  pub less : size m < m
+  pub rollable : Rollable most (countdown (size m) m)
+
+abbrev pub GoodSizes : (ℕ → ℕ) → ℕ → ℕ → Type 0
+GoodSizes size most top = (m : ℕ) → 1 < m → m ≤ top → GoodSize size most m
 
 -- ---- numbers in a row
 

@@ -25,17 +25,16 @@ use Rattle.arithmetic.specs.Rolls.{rolls, accepted, inRange}
 use Rattle.arithmetic.specs.Width.{Width, w64, size64}
 use Rattle.arithmetic.proofs.Rolls.{rolls-length, rolls-in-range, in-range-cons}
 use Rattle.arithmetic.proofs.Words.{words-behind, last-fits, run-length}
-use Rattle.rolls.specs.Run.{Taken, Found, found, missing, find, Run, ran, short, after, runFrom, run, trace, rollsOf}
-use Rattle.rolls.specs.Inner.{suffices}
-use Rattle.rolls.specs.Outcome.{Outcome, refused, done, decide, noWord, used}
+use Rattle.rolls.specs.Run.{Taken, Found, found, missing, find, Run, ran, short, after, runFrom, run, trace, rollsOf, suffices}
+use Rattle.rolls.specs.Outcome.{Outcome, refused, done, decide, noWord}
 use Rattle.rolls.proofs.Finding.{find-hit, find-miss, find-within}
 use Rattle.rolls.proofs.Running.{run-hit, run-missing}
 use Rattle.draws.specs.Shuffle.{shuffleWith, shufflePlan}
 use Rattle.draws.specs.Order.{rollsInto, AllBelow, Distinct, Reorders}
-use Rattle.draws.specs.Plan.{joined, Rollable, RollablePlan, GoodSizes}
-use Rattle.draws.specs.Runs.{InRuns, FullRuns, Rolled, Gives}
+use Rattle.draws.specs.Plan.{joined, Rollable, RollablePlan}
+use Rattle.draws.proofs.Runs.{InRuns, FullRuns, Rolled, DoneWith}
 use Rattle.draws.specs.Operations.{shuffle}
-use Rattle.draws.proofs.Plans.{sizes-more, shuffle-plan, sizes64}
+use Rattle.draws.proofs.Plans.{GoodSizes, sizes-more, shuffle-plan, sizes64}
 use Rattle.draws.proofs.Orders.{one-series}
 
 -- ---- rolls in range, batch by batch
@@ -198,14 +197,14 @@ words-in-runs L plan rs words g i n w = from-place L words w plan rs 0 0 g i (om
 
 -- ---- the shuffle
 
-pub gives-done : (values : List ℕ) (o : Outcome) → Gives values o ↔ ((next rejected : ℕ) × (o ≡ done values next rejected))
+pub gives-done : (values : List ℕ) (o : Outcome) → DoneWith values o ↔ ((next rejected : ℕ) × (o ≡ done values next rejected))
 gives-done values (refused number batch) = (λ g. absurd g, λ (n, r, e). let z : _≡_ {A = ℕ} 0 1 = cc in absurd (let f : ⊥ = omega arith in f))
 gives-done values (done drawn next rejected) = (λ g. (next, rejected, ap (λ (v : List ℕ). done v next rejected) g), λ (n, r, e). cc)
 
-gives-run : (start : ℕ) (values ys : List ℕ) (r : Run) → Gives ys (decide (noWord r ∷ []) (used start r values)) ↔ (T (suffices r) × (values ≡ ys))
+gives-run : (values ys : List ℕ) (to more : ℕ) (r : Run) → DoneWith ys (decide (noWord r ∷ []) (done values to more)) ↔ (T (suffices r) × (values ≡ ys))
 unfolding decide
-gives-run start values ys (ran ts) = (λ g. (tt, g), λ g. g .1)
-gives-run start values ys (short k) = (λ g. absurd g, λ g. absurd (g .0))
+gives-run values ys to more (ran ts) = (λ g. (tt, g), λ g. g .1)
+gives-run values ys to more (short k) = (λ g. absurd g, λ g. absurd (g .0))
 
 -- the run of a shuffle, and its rolls
 abbrev pub shuffleRun : Width → List ℕ → ℕ → List ℕ → Run
@@ -215,16 +214,16 @@ abbrev pub shuffleRolls : Width → List ℕ → ℕ → List ℕ → List ℕ
 shuffleRolls W words start xs = rollsOf (W .bits) (shufflePlan (W .size) (length xs)) (trace (shuffleRun W words start xs))
 
 pub shuffle-gives : (W : Width) (words : List ℕ) (start : ℕ) (xs ys : List ℕ) → length xs ≤ 16384 → start ≤ length words
-    → Gives ys (shuffle W words start xs)
+    → DoneWith ys (shuffle W words start xs)
     ↔ (T (suffices (shuffleRun W words start xs)) × (shuffleWith (length xs) (shuffleRolls W words start xs) xs ≡ ys))
 unfolding shuffle decide
 shuffle-gives W words start xs ys h k =
     rw (le-ltb (length xs) 0 (omega arith), le-ltb 16384 (length xs) h, le-ltb (length words) start k)
-    (gives-run start (shuffleWith (length xs) (shuffleRolls W words start xs) xs) ys (shuffleRun W words start xs))
+    (gives-run (shuffleWith (length xs) (shuffleRolls W words start xs) xs) ys _ _ (shuffleRun W words start xs))
 
 pub shuffle-in-runs : (W : Width) → GoodSizes (W .size) (2 ^ W .bits) 16384 → (xs ys words : List ℕ) → length xs ≤ 16384
     → Distinct xs → Reorders xs ys → length words ≡ length (shufflePlan (W .size) (length xs)) → AllBelow (2 ^ W .bits) words
-    → Gives ys (shuffle W words 0 xs) ↔ InRuns (W .bits) (shufflePlan (W .size) (length xs)) (rollsInto (length xs) xs ys) words
+    → DoneWith ys (shuffle W words 0 xs) ↔ InRuns (W .bits) (shufflePlan (W .size) (length xs)) (rollsInto (length xs) xs ys) words
 shuffle-in-runs W z xs ys words h d o n w =
     let plan : List (List ℕ) = shufflePlan (W .size) (length xs) in
     let good = shuffle-plan z (length xs) h in
@@ -242,5 +241,5 @@ shuffle-in-runs W z xs ys words h d o n w =
 
 pub shuffle-in-runs64 : (xs ys words : List ℕ) → length xs ≤ 16384 → Distinct xs → Reorders xs ys
     → length words ≡ length (shufflePlan size64 (length xs)) → AllBelow (2 ^ 64) words
-    → Gives ys (shuffle w64 words 0 xs) ↔ InRuns 64 (shufflePlan size64 (length xs)) (rollsInto (length xs) xs ys) words
+    → DoneWith ys (shuffle w64 words 0 xs) ↔ InRuns 64 (shufflePlan size64 (length xs)) (rollsInto (length xs) xs ys) words
 shuffle-in-runs64 = shuffle-in-runs w64 (sizes-more (lit≤ tt) sizes64)

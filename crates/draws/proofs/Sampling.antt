@@ -14,7 +14,7 @@ use native.Mathlib.Omega.{arith}
 use lib.ListN.{length, take, drop, set, getD, length-set, take-append-drop, drop-of-length-le}
 use lib.Seq.{take-suc, take-all, take-at, drop-at, drop-cons, take-set-lt, drop-set-lt, length-take-le, length-front}
 use borrow.Author.Tests.{lt-ltb, le-ltb, ne-eqb}
-use Rattle.arithmetic.specs.Products.{hasZero}
+use Rattle.arithmetic.specs.Rolls.{hasZero}
 use Rattle.rolls.proofs.Writing.{stored-front, stored-back}
 use Rattle.draws.specs.Sample.{countup, reservoir}
 use Rattle.draws.proofs.Plans.{countup-length}

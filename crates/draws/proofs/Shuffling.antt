@@ -15,15 +15,14 @@ use lib.ListN.{length, drop}
 use Rattle.arithmetic.specs.Rolls.{rolls, product, threshold, accepted}
 use Rattle.arithmetic.specs.Width.{size64}
 use Rattle.arithmetic.proofs.Rolls.{rolls-length}
-use Rattle.rolls.specs.Run.{find, Run, runFrom, run, rollsOf, next, rejected}
-use Rattle.rolls.specs.Inner.{passes, searched, supplied, suffices}
+use Rattle.rolls.specs.Run.{find, Run, runFrom, run, rollsOf, next, rejected, suffices}
+use Rattle.rolls.specs.Inner.{passes, searched, supplied}
 use Rattle.rolls.specs.declared.search.Search.the-variants.{Hit, Missing}
 use Rattle.rolls.specs.declared.supply.Supply.the-variants.{Enough, Short}
 use Rattle.rolls.proofs.Finding.{find-batch}
 use Rattle.rolls.proofs.Running.{finish, finish-none, finish-hit, finish-missing, rolledBy, hit-suffices, hit-rolled, hit-passed, hit-within, never-missing}
 use Rattle.draws.specs.Shuffle.{exchange, shuffleWith, countdown, shufflePlan}
-use Rattle.draws.specs.Plan.{GoodSize}
-use Rattle.draws.proofs.Plans.{countdown-length, sizes64, plan-end, plan-step}
+use Rattle.draws.proofs.Plans.{GoodSize, countdown-length, sizes64, plan-end, plan-step}
 use Rattle.draws.proofs.Orders.{length-shuffle}
 
 pub shuffle-append : (m : ℕ) (rs ss xs : List ℕ) → shuffleWith m (rs ++ ss) xs ≡ shuffleWith (m - length rs) ss (shuffleWith m rs xs)

@@ -3,4 +3,3 @@ pub mod Sample
 pub mod Order
 pub mod Operations
 pub mod Plan
-pub mod Runs

@@ -1,18 +1,14 @@
--- What the laws say of a plan, a list of batches.
+-- What is said of a plan, a list of batches.
 --
 --   joined plan                the bounds of the plan, batch after batch
 --   Rollable most bs           document 01 allows the batch bs, with a product up to most
 --   RollablePlan most plan     and so for each batch of the plan
 --   PlanOf most bs plan        the plan's batches are the bounds bs in their order, and each can be rolled
---   Bounded most bs            each bound is from 1 to most
---   GoodSize size most m       with m records still to place, the next batch leaves one or more of them and can be rolled
---   GoodSizes size most top    and so for up to top records
 use mathlib.Core.Path.{_≡_}
 use mathlib.Core.List.{List, [], _∷_, _++_}
 use Prim.Native.Nat.{ℕ, _<_, _≤_}
-use lib.ListN.{length, getD}
+use lib.ListN.{length}
 use Rattle.arithmetic.specs.Rolls.{product}
-use Rattle.draws.specs.Shuffle.{countdown}
 
 unfoldable pub joined : List (List ℕ) → List ℕ
 joined [] = []
@@ -32,13 +28,3 @@ RollablePlan most (bs ∷ plan) = Rollable most bs × RollablePlan most plan
 pub record PlanOf (most : ℕ) (bs : List ℕ) (plan : List (List ℕ)) : Type 0 where
   pub same : joined plan ≡ bs
   pub rollable : RollablePlan most plan
-
-abbrev pub Bounded : ℕ → List ℕ → Type 0
-Bounded most bs = (i : ℕ) → i < length bs → (0 < getD bs i 0) × (getD bs i 0 ≤ most)
-
-pub record GoodSize (size : ℕ → ℕ) (most m : ℕ) : Type 0 where
-  pub less : size m < m
-  pub rollable : Rollable most (countdown (size m) m)
-
-abbrev pub GoodSizes : (ℕ → ℕ) → ℕ → ℕ → Type 0
-GoodSizes size most top = (m : ℕ) → 1 < m → m ≤ top → GoodSize size most m

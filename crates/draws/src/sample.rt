@@ -12,10 +12,9 @@ ghost use mathlib.Core.List.{_++_};
 ghost use Prim.Native.Nat.{_+_, _-_, _≤_, _<_, _^_};
 ghost use lib.ListN.{length, take, drop};
 ghost use Rattle.arithmetic.specs.Width.{w64};
-ghost use Rattle.rolls.specs.Run.{run, trace, rollsOf};
+ghost use Rattle.rolls.specs.Run.{run, trace, rollsOf, suffices};
 ghost use Rattle.rolls.specs.Cut.{cut};
 ghost use Rattle.rolls.specs.Outcome.{shown, left};
-ghost use Rattle.rolls.specs.Inner.{suffices};
 ghost use Rattle.draws.specs.Sample.{countup, reservoir};
 ghost use Rattle.draws.specs.Operations.{sample};
 

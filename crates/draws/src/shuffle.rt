@@ -17,9 +17,8 @@ ghost use Prim.Native.Nat.{_≤_, _<_};
 ghost use lib.ListN.{length};
 ghost use Rattle.arithmetic.specs.Rolls.{rolls};
 ghost use Rattle.arithmetic.specs.Width.{size64, w64};
-ghost use Rattle.rolls.specs.Run.{run, trace, rollsOf};
+ghost use Rattle.rolls.specs.Run.{run, trace, rollsOf, suffices};
 ghost use Rattle.rolls.specs.Outcome.{shown, left};
-ghost use Rattle.rolls.specs.Inner.{suffices};
 ghost use Rattle.draws.specs.Shuffle.{exchange, shuffleWith, countdown, shufflePlan};
 ghost use Rattle.draws.specs.Operations.{shuffle};
 

@@ -1,10 +1,12 @@
 -- Demand 3: a shuffle that is not refused holds its values, which are the order exactly when each word lies in its run; and the two
 -- operations name those runs. Assumes nothing.
 --
---   model          the shuffle of the definitions, and what it produces
---   same-at        the demand at n records, of a shuffle that produces there what the model does
---   demand3        up to 16,384 records
---   own-places     the records 0 .. n - 1 are their own places
+--   model-produces    what the shuffle of the definitions produces
+--   same-at           the demand at n records, of a shuffle that produces there what the model does
+--   right op          the operations op, but for the shuffle, which is the model's
+--   right-holds       the demand, of these
+--   demand3           the demand, up to 16,384 records
+--   own-places        the records 0 .. n - 1 are their own places
 use mathlib.Core.Path.{_≡_, refl, sym, ap, _∙_}
 use mathlib.Core.Logic.{_↔_}
 use mathlib.Core.List.{List, [], _∷_}
@@ -16,9 +18,8 @@ use lib.Seq.{ext-getD}
 use borrow.Author.Tests.{le-ltb}
 use Rattle.arithmetic.specs.Rolls.{inRange}
 use Rattle.arithmetic.specs.Width.{w64, size64}
-use Rattle.rolls.specs.Run.{Run, ran, short}
-use Rattle.rolls.specs.Inner.{suffices}
-use Rattle.rolls.specs.Outcome.{decide, noWord, used}
+use Rattle.rolls.specs.Run.{Run, ran, short, suffices}
+use Rattle.rolls.specs.Outcome.{done, decide, noWord}
 use Rattle.draws.specs.Shuffle.{shuffleWith, shufflePlan}
 use Rattle.draws.specs.Order.{AllBelow, Distinct, Reorders, placeOf, rollsInto}
 use Rattle.draws.specs.Sample.{countup}
@@ -29,70 +30,82 @@ use Rattle.draws.proofs.Orders.{place-of, length-shuffle, one-series}
 use Rattle.draws.proofs.Each.{countup-distinct}
 use Rattle.draws.proofs.OneShuffle.{whole-list}
 use Rattle.draws.proofs.Reach.{shuffleRun, shuffleRolls, shuffle-gives, shuffle-in-runs64}
-use Rattle.rolls.specs.declared.answer.Answer.{Answer}
 use Rattle.rolls.specs.declared.answer.Behind.{Behind}
-use Rattle.promises.specs.Contracts.{Shuffle, RollsBehind, WordsBehind, seen, MeetsOrder, MeetsBehind}
-use Rattle.promises.specs.Demand3.{Paired, places, runsNamed, InRun, Produces, Demand3At, HoldsDemand3, OwnPlaces}
+use Rattle.promises.specs.Contracts.{Operations, seen, MeetsBack}
+use Rattle.promises.specs.Demand3.{Paired, places, runsNamed, InRun, Produces, Demand3At, Demand3, HoldsDemand3, OwnPlaces}
 use Rattle.promises.specs.Demand2.{FullRun}
+use Rattle.promises.proofs.Model.{model}
 use Rattle.promises.proofs.Naming.{plan-fits, places-length, places-at, rolls-named, runs-full, runs-in}
 
--- the shuffle of the definitions, which meets the contract
-abbrev pub model : Shuffle
-model words start xs = seen start xs (shuffle w64 words start xs)
-
--- what the caller sees of a run: not refused and these values, exactly when the words suffice and the values are these
-abbrev Holds : List ℕ → Answer × List ℕ → Type 0
-Holds ys got = (got .0 .no ≡ 0) × (got .1 ≡ ys)
-
-holds-run : (r : Run) (values xs ys : List ℕ) → length values ≡ length xs
-    → Holds ys (seen 0 xs (decide (noWord r ∷ []) (used 0 r values))) ↔ (T (suffices r) × (values ≡ ys))
+-- not refused and these values, exactly when the words suffice and the values are these
+holds-run : (r : Run) (values xs ys : List ℕ) (to more : ℕ) → length values ≡ length xs
+    → Produces (seen 0 xs (decide (noWord r ∷ []) (done values to more))) ys ↔ (T (suffices r) × (values ≡ ys))
 unfolding decide
-holds-run (ran ts) values xs ys n = (λ (z, e). (tt, whole-list values xs n ∙ e), λ (t, e). (refl, sym (whole-list values xs n) ∙ e))
-holds-run (short k) values xs ys n = (λ (z, e). absurd (let f : ⊥ = omega arith in f), λ (t, e). absurd t)
+holds-run (ran ts) values xs ys to more n = (λ (z, e). (tt, whole-list values xs n ∙ e), λ (t, e). (refl, sym (whole-list values xs n) ∙ e))
+holds-run (short k) values xs ys to more n = (λ (z, e). absurd (let f : ⊥ = omega arith in f), λ (t, e). absurd t)
 
 pub model-produces : (words xs ys : List ℕ) → length xs ≤ 16384
-    → Produces model words xs ys ↔ (T (suffices (shuffleRun w64 words 0 xs)) × (shuffleWith (length xs) (shuffleRolls w64 words 0 xs) xs ≡ ys))
+    → Produces (model .shuffle words 0 xs) ys
+    ↔ (T (suffices (shuffleRun w64 words 0 xs)) × (shuffleWith (length xs) (shuffleRolls w64 words 0 xs) xs ≡ ys))
 unfolding shuffle decide
 model-produces words xs ys h =
     rw (le-ltb (length xs) 0 zero-le, le-ltb 16384 (length xs) h, le-ltb (length words) 0 zero-le)
-    (holds-run (shuffleRun w64 words 0 xs) (shuffleWith (length xs) (shuffleRolls w64 words 0 xs) xs) xs ys
+    (holds-run (shuffleRun w64 words 0 xs) (shuffleWith (length xs) (shuffleRolls w64 words 0 xs) xs) xs ys _ _
     (length-shuffle (length xs) (shuffleRolls w64 words 0 xs) xs))
 
-module _ (op : Shuffle) (rolls : RollsBehind) (behind : WordsBehind) (o : MeetsOrder rolls) (b : MeetsBehind behind) where
+module _ (op : Operations) (b : MeetsBack op) where
   for-order : (xs ys : List ℕ) → length xs ≤ 16384 → Distinct xs → Reorders xs ys
-      → ((words : List ℕ) → AllBelow (2 ^ 64) words → Produces op words xs ys ↔ Produces model words xs ys)
+      → ((words : List ℕ) → AllBelow (2 ^ 64) words → Produces (op .shuffle words 0 xs) ys ↔ Produces (model .shuffle words 0 xs) ys)
       → let plan : List (List ℕ) = shufflePlan size64 (length xs) in
-      let (answer, rs) = rolls (places xs ys) (replicate (length xs - 1) 0) in
-      let runs : List Behind = runsNamed behind plan rs in
+      let (answer, rs) = op .rolls-behind (places xs ys) (replicate (length xs - 1) 0) in
+      let runs : List Behind = runsNamed (op .words-behind) plan rs in
       (answer .no ≡ 0)
       × Paired FullRun plan runs
-      × ((words : List ℕ) → length words ≡ length plan → AllBelow (2 ^ 64) words → Produces op words xs ys ↔ Paired InRun runs words)
+      × ((words : List ℕ) → length words ≡ length plan → AllBelow (2 ^ 64) words
+      → Produces (op .shuffle words 0 xs) ys ↔ Paired InRun runs words)
   for-order xs ys h d r same =
       let plan : List (List ℕ) = shufflePlan size64 (length xs) in
       let rs : List ℕ = rollsInto (length xs) xs ys in
       let good = plan-fits (length xs) h in
       let range : T (inRange (joined plan) rs) = rw (good .same) (one-series xs ys d r .in-range) in
-      rw (rolls-named xs ys d r rolls o h) (
+      rw (rolls-named xs ys d r op b h) (
         refl,
-        runs-full behind b plan rs (good .rollable) range,
+        runs-full op b plan rs (good .rollable) range,
         λ words n w.
             let produces = same words w in
             let holds = model-produces words xs ys h in
             let gives = shuffle-gives w64 words 0 xs ys h zero-le in
             let runs = shuffle-in-runs64 xs ys words h d r n w in
-            let named = runs-in behind b plan rs words (good .rollable) range in (
+            let named = runs-in op b plan rs words (good .rollable) range in (
               λ p. named .1 (runs .0 (gives .1 (holds .0 (produces .0 p)))),
               λ q. produces .1 (holds .1 (gives .0 (runs .1 (named .0 q)))),
             ),
       )
 
   pub same-at : (n : ℕ) → n ≤ 16384
-      → ((xs ys words : List ℕ) → length xs ≡ n → AllBelow (2 ^ 64) words → Produces op words xs ys ↔ Produces model words xs ys)
-      → Demand3At op rolls behind n
+      → ((xs ys words : List ℕ) → length xs ≡ n → AllBelow (2 ^ 64) words
+      → Produces (op .shuffle words 0 xs) ys ↔ Produces (model .shuffle words 0 xs) ys)
+      → Demand3At op n
   same-at n h same xs ys e d r = rw (← e) (for-order xs ys (rw e h) d r (λ words w. same xs ys words e w))
 
+-- the operations op, but for the shuffle, which is the model's
+abbrev pub right : Operations → Operations
+right op = record {
+  roll-batch = op .roll-batch;
+  roll-list = op .roll-list;
+  shuffle = model .shuffle;
+  sample = op .sample;
+  words-behind = op .words-behind;
+  rolls-behind = op .rolls-behind;
+  run-sheet = op .run-sheet;
+}
+
+pub right-holds : (op : Operations) → MeetsBack op → Demand3 (right op)
+right-holds op b n h =
+    same-at (right op) (record { words-behind = b .words-behind; rolls-behind = b .rolls-behind }) n h (λ xs ys words e w. (λ p. p, λ p. p))
+
 pub demand3 : HoldsDemand3
-demand3 op rolls behind s o b n h = same-at op rolls behind o b n h (λ xs ys words e w. rw (s words 0 xs) (λ p. p, λ p. p))
+demand3 op m n h = same-at op (m .back) n h (λ xs ys words e w. rw (m .shuffle words 0 xs) (λ p. p, λ p. p))
 
 pub own-places : OwnPlaces
 own-places n ys o = ext-getD 0 (places (countup n 0) ys) ys (places-length (countup n 0) ys) at

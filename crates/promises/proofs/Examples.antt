@@ -1,6 +1,5 @@
 -- The checked examples hold: the definitions compute them. Assumes nothing.
-use Rattle.arithmetic.specs.Products.{hasZero}
-use Rattle.arithmetic.specs.Rolls.{rolls, rest, product, value, inRange}
+use Rattle.arithmetic.specs.Rolls.{rolls, rest, product, value, inRange, hasZero}
 use Rattle.arithmetic.specs.Width.{size64}
 use Rattle.rolls.specs.Outcome.{decide}
 use Rattle.rolls.specs.Operations.{rollBatch, wordsBehind}

@@ -135,13 +135,8 @@ module _ (bs words : List ℕ) (p : 0 < product bs) (w : AllBelow (2 ^ 64) words
 
 -- ---- a plan
 
-abbrev placesOf : List Taken → List ℕ
-placesOf [] = []
-placesOf (t ∷ ts) = t .place ∷ placesOf ts
-
 pub record Ran (plan : List (List ℕ)) (words : List ℕ) (start : ℕ) (ts : List Taken) : Type 0 where
-  pub places : List ℕ
-  pub follows : Follows plan words start (next start ts) places (rollsOf 64 plan ts)
+  pub follows : Follows plan words start (next start ts) (rollsOf 64 plan ts)
   pub used : next start ts ≡ start + (length plan + rejected start ts)
 
 abbrev pub RanAs : List (List ℕ) → List ℕ → ℕ → Run → Type 0
@@ -154,10 +149,10 @@ unfolding rollsOf next rejected
 ran-after bs plan words start t (ran ts) f g =
     let n : length (rolls 64 bs (t .word)) ≡ length bs = rolls-length 64 bs (t .word) in
     record {
-      places = t .place ∷ g .places;
       follows = (
+        t .place,
         subst (First bs words start (t .place)) (sym (take-at (rolls 64 bs (t .word)) (rollsOf 64 plan ts) (length bs) n)) f,
-        subst (Follows plan words (t .place + 1) (next (t .place + 1) ts) (g .places))
+        subst (Follows plan words (t .place + 1) (next (t .place + 1) ts))
             (sym (drop-at (rolls 64 bs (t .word)) (rollsOf 64 plan ts) (length bs) n)) (g .follows),
       );
       used = omega (arith, g .used, f .here);
@@ -168,7 +163,7 @@ module _ (words : List ℕ) (w : AllBelow (2 ^ 64) words) where
   pub follows-run : (plan : List (List ℕ)) (start batch : ℕ) → RollablePlan (2 ^ 64) plan → start ≤ length words
       → RanAs plan words start (runFrom 64 plan words start batch)
   unfolding runFrom rollsOf next rejected
-  follows-run [] start batch g l = record { places = []; follows = (refl, refl); used = omega arith }
+  follows-run [] start batch g l = record { follows = (refl, refl); used = omega arith }
   follows-run (bs ∷ plan) start batch (b, g) l = go (find (accepted 64 bs) (drop start words) start) refl (λ at batch. follows-run plan at batch g)
     where
       go : (f : Found) → find (accepted 64 bs) (drop start words) start ≡ f
@@ -186,16 +181,14 @@ module _ (words : List ℕ) (w : AllBelow (2 ^ 64) words) where
     pub rolled : rollsOf 64 plan taken ≡ rs
     pub ends : next from taken ≡ to
 
-  pub run-follows : (plan : List (List ℕ)) (from to batch : ℕ) (places rs : List ℕ) → RollablePlan (2 ^ 64) plan
-      → Follows plan words from to places rs → RunBy plan from to batch rs
+  pub run-follows : (plan : List (List ℕ)) (from to batch : ℕ) (rs : List ℕ) → RollablePlan (2 ^ 64) plan
+      → Follows plan words from to rs → RunBy plan from to batch rs
   unfolding runFrom rollsOf next
-  run-follows [] from to batch [] rs g f = record { taken = []; runs = refl; rolled = sym (f .1); ends = sym (f .0) }
-  run-follows [] from to batch (p ∷ ps) rs g f = absurd f
-  run-follows (bs ∷ plan) from to batch [] rs g f = absurd f
-  run-follows (bs ∷ plan) from to batch (p ∷ ps) rs (b, g) (f, later) =
+  run-follows [] from to batch rs g f = record { taken = []; runs = refl; rolled = sym (f .1); ends = sym (f .0) }
+  run-follows (bs ∷ plan) from to batch rs (b, g) (p, f, later) =
       let hit = first-found bs words (b .positive) w from p (take (length bs) rs) f in
       let t : Taken = record { place = p; word = getD words p 0 } in
-      let r = run-follows plan (p + 1) to (batch + 1) ps (drop (length bs) rs) g later in
+      let r = run-follows plan (p + 1) to (batch + 1) (drop (length bs) rs) g later in
       record {
         taken = t ∷ r .taken;
         runs = run-hit 64 bs plan words from batch (hit .0) ∙ ap (after t) (r .runs);

@@ -1,4 +1,5 @@
 pub mod Refusing
+pub mod Model
 pub mod Naming
 pub mod Lemire
 pub mod Demand1

@@ -22,8 +22,7 @@ use lib.Dec.{T, eqb, lit≤}
 use lib.ListN.{length, take, drop, getD, replicate, length-replicate, drop-of-length-le}
 use lib.Seq.{ext-getD}
 use borrow.Author.Tests.{le-ltb, ne-eqb}
-use Rattle.arithmetic.specs.Rolls.{product, inRange, firstWord, lastWord}
-use Rattle.arithmetic.specs.Products.{hasZero}
+use Rattle.arithmetic.specs.Rolls.{product, inRange, firstWord, lastWord, hasZero}
 use Rattle.arithmetic.specs.Width.{size64}
 use Rattle.arithmetic.proofs.Rolls.{in-range-cons, product-pos-head, product-pos-tail}
 use Rattle.arithmetic.proofs.Words.{first-last, last-fits, run-length}
@@ -35,13 +34,13 @@ use Rattle.draws.specs.Shuffle.{exchange, shuffleWith, shuffleBounds, shufflePl
 use Rattle.draws.specs.Sample.{countup}
 use Rattle.draws.specs.Order.{isOrder, placeOf, rollsInto, Distinct, Reorders, Only}
 use Rattle.draws.specs.Plan.{joined, Rollable, RollablePlan, PlanOf}
-use Rattle.draws.specs.Runs.{InRuns}
 use Rattle.draws.specs.Operations.{rollsBehind}
 use Rattle.draws.proofs.Plans.{countup-length, countup-at, shuffle-bounds-length, sizes-more, sizes64, shuffle-plan}
 use Rattle.draws.proofs.Orders.{length-exchange, exchange-first, exchange-last, exchange-other, place-of, range-cons, length-shuffle, one-series}
+use Rattle.draws.proofs.Runs.{InRuns}
 use Rattle.draws.proofs.Each.{order-iff, rolls-behind}
 use Rattle.rolls.specs.declared.answer.Behind.{Behind}
-use Rattle.promises.specs.Contracts.{RollsBehind, WordsBehind, seen, MeetsOrder, MeetsBehind}
+use Rattle.promises.specs.Contracts.{Operations, seen, MeetsBack}
 use Rattle.promises.specs.Demand3.{Paired, places, runsNamed, InRun}
 use Rattle.promises.specs.Demand2.{FullRun}
 use Rattle.promises.proofs.Refusing.{truth}
@@ -155,9 +154,9 @@ module _ (xs ys : List ℕ) (d : Distinct xs) (o : Reorders xs ys) where
               ∙ ap (record-at xs) (ap (λ (l : List ℕ). getD l i 0) (only .gives) ∙ places-at xs ys i k)
               ∙ stands i k .1
 
-  pub rolls-named : (rolls : RollsBehind) → MeetsOrder rolls → length xs ≤ 16384
-      → rolls (places xs ys) (replicate (length xs - 1) 0) ≡ (record { no = 0; next = 0; rejected = 0; batch = 0 }, rollsInto (length xs) xs ys)
-  rolls-named rolls m h =
+  pub rolls-named : (op : Operations) → MeetsBack op → length xs ≤ 16384
+      → op .rolls-behind (places xs ys) (replicate (length xs - 1) 0) ≡ (record { no = 0; next = 0; rejected = 0; batch = 0 }, rollsInto (length xs) xs ys)
+  rolls-named op m h =
       let order : List ℕ = places xs ys in
       let lent : List ℕ = replicate (length xs - 1) 0 in
       let room : length lent ≡ length xs - 1 = length-replicate (length xs - 1) 0 in
@@ -169,7 +168,7 @@ module _ (xs ys : List ℕ) (d : Distinct xs) (o : Reorders xs ys) where
       ∙ ap (λ (l : List ℕ). done l 0 0) (rw places-count rolls-same) in
       let all : values ++ drop (length values) lent ≡ values =
       ap (λ (l : List ℕ). values ++ l) (drop-of-length-le lent {i = length values} (omega arith)) ∙ append-nil values in
-      m order lent ∙ ap (seen 0 lent) gives ∙ (λ i. (record { no = 0; next = 0; rejected = 0; batch = 0 }, all i))
+      m .rolls-behind order lent ∙ ap (seen 0 lent) gives ∙ (λ i. (record { no = 0; next = 0; rejected = 0; batch = 0 }, all i))
 
 -- ---- the run of a batch
 
@@ -191,9 +190,9 @@ run-full bs rs b i = record {
   long = run-length 64 bs rs (b .positive) (b .fits);
 }
 
-pub run-named : (behind : WordsBehind) → MeetsBehind behind → (bs rs : List ℕ) → Rollable (2 ^ 64) bs → T (inRange bs rs) → behind bs rs ≡ runOf bs rs
-run-named behind meets bs rs b i =
-    meets bs rs
+pub run-named : (op : Operations) → MeetsBack op → (bs rs : List ℕ) → Rollable (2 ^ 64) bs → T (inRange bs rs) → op .words-behind bs rs ≡ runOf bs rs
+run-named op meets bs rs b i =
+    meets .words-behind bs rs
     ∙ behind-found bs rs (in-count 1 16 (length bs) (b .some) (b .few)) (pos-no-zero bs (b .positive)) (le-ltb (2 ^ 64) (product bs) (b .fits))
     (truth (inRange bs rs) i)
 
@@ -206,18 +205,18 @@ range-split (b ∷ bs) cs (r ∷ rs) i =
     let s = range-split bs cs rs (h .1) in
     (in-range-cons b bs r (take (length bs) rs) .1 (h .0, s .0), s .1)
 
-module _ (behind : WordsBehind) (meets : MeetsBehind behind) where
+module _ (op : Operations) (meets : MeetsBack op) where
   pub runs-full : (plan : List (List ℕ)) (rs : List ℕ) → RollablePlan (2 ^ 64) plan → T (inRange (joined plan) rs)
-      → Paired FullRun plan (runsNamed behind plan rs)
+      → Paired FullRun plan (runsNamed (op .words-behind) plan rs)
   unfolding joined runsNamed
   runs-full [] rs g i = tt
   runs-full (bs ∷ plan) rs (b, g) i =
       let s = range-split bs (joined plan) rs i in
       let part : List ℕ = take (length bs) rs in
-      (subst (FullRun bs) (sym (run-named behind meets bs part b (s .0))) (run-full bs part b (s .0)), runs-full plan (drop (length bs) rs) g (s .1))
+      (subst (FullRun bs) (sym (run-named op meets bs part b (s .0))) (run-full bs part b (s .0)), runs-full plan (drop (length bs) rs) g (s .1))
 
   pub runs-in : (plan : List (List ℕ)) (rs words : List ℕ) → RollablePlan (2 ^ 64) plan → T (inRange (joined plan) rs)
-      → Paired InRun (runsNamed behind plan rs) words ↔ InRuns 64 plan rs words
+      → Paired InRun (runsNamed (op .words-behind) plan rs) words ↔ InRuns 64 plan rs words
   unfolding joined runsNamed
   runs-in [] rs [] g i = (λ x. x, λ x. x)
   runs-in [] rs (w ∷ ws) g i = (λ x. x, λ x. x)
@@ -225,6 +224,6 @@ module _ (behind : WordsBehind) (meets : MeetsBehind behind) where
   runs-in (bs ∷ plan) rs (w ∷ ws) (b, g) i =
       let s = range-split bs (joined plan) rs i in
       let later = runs-in plan (drop (length bs) rs) ws g (s .1) in
-      subst (λ (run : Behind). (InRun run w × Paired InRun (runsNamed behind plan (drop (length bs) rs)) ws) ↔ InRuns 64 (bs ∷ plan) rs (w ∷ ws))
-      (sym (run-named behind meets bs (take (length bs) rs) b (s .0)))
+      subst (λ (run : Behind). (InRun run w × Paired InRun (runsNamed (op .words-behind) plan (drop (length bs) rs)) ws) ↔ InRuns 64 (bs ∷ plan) rs (w ∷ ws))
+      (sym (run-named op meets bs (take (length bs) rs) b (s .0)))
       (λ (r, x). (r .0, r .1, later .0 x), λ (low, high, x). ((low, high), later .1 x))

@@ -3,7 +3,6 @@
 --   truth                       a test that holds is true
 --   first-here, first-past      the first of a list, by the test of its head
 --   as-refused                  a refusal is the first one, alone, whatever an operation's answer looks like
---   decide-under                two lists that agree where their head does not apply
 --   allowed-cons, allowed-done  where no refusal applies: none of the list does, and the outcome is not refused
 use mathlib.Core.Path.{_≡_, refl, sym, ap, _∙_}
 use mathlib.Core.Bool.{Bool, true, false}
@@ -29,10 +28,12 @@ module _ (r : Refusal) (rs : List Refusal) where
   unfolding firstOf
   first-past e = rw (e, firstOf)
 
--- an answer that shows an outcome, and how it says a refusal; the outcome o is none
-module _ {A : Type 0} (show : Outcome → A) (number : A → ℕ) (saying : Refusal → A)
-    (says : (r : Refusal) → show (refused (r .number) (r .batch)) ≡ saying r) (numbers : (r : Refusal) → number (saying r) ≡ r .number)
-    (o : Outcome) (none : number (show o) ≡ 0) where
+-- what a caller gets of an outcome, with its number; where nothing is refused the outcome is o
+module _ {A : Type 0} (show saying : Outcome → A) (number : A → ℕ) (says : (n batch : ℕ) → show (refused n batch) ≡ saying (refused n batch))
+    (numbers : (n batch : ℕ) → number (saying (refused n batch)) ≡ n) (o : Outcome) (none : number (show o) ≡ 0) where
+  abbrev told : Refusal → A
+  told r = saying (refused (r .number) (r .batch))
+
   pub as-refused : (rs : List Refusal) (got : A) → got ≡ show (decide rs o) → AsRefused rs saying (number got) got
   unfolding firstOf
   as-refused [] got e =
@@ -42,21 +43,13 @@ module _ {A : Type 0} (show : Outcome → A) (number : A → ℕ) (saying : Refu
     where
       go : (b : Bool) → r .applies ≡ b → (got ≡ show (decide rs o) → AsRefused rs saying (number got) got) → AsRefused (r ∷ rs) saying (number got) got
       go true f ih =
-          let said : got ≡ saying r = e ∙ ap show (decide-here r rs o f) ∙ says r in
+          let said : got ≡ told r = e ∙ ap show (decide-here r rs o f) ∙ says (r .number) (r .batch) in
           let first : r ≡ firstOf (r ∷ rs) = sym (first-here r rs f) in
-          record { lowest = ap number said ∙ numbers r ∙ ap (λ (x : Refusal). x .number) first; whole = λ n. said ∙ ap saying first }
+          record { lowest = ap number said ∙ numbers (r .number) (r .batch) ∙ ap (λ (x : Refusal). x .number) first; whole = λ n. said ∙ ap told first }
       go false f ih =
           let g = ih (e ∙ ap show (decide-past r rs o f)) in
           let first : firstOf rs ≡ firstOf (r ∷ rs) = sym (first-past r rs f) in
-          record { lowest = g .lowest ∙ ap (λ (x : Refusal). x .number) first; whole = λ n. g .whole n ∙ ap saying first }
-
-pub decide-under : (r : Refusal) (rs ss : List Refusal) (o p : Outcome) → (r .applies ≡ false → decide rs o ≡ decide ss p)
-    → decide (r ∷ rs) o ≡ decide (r ∷ ss) p
-decide-under r rs ss o p h = go (r .applies) refl
-  where
-    go : (b : Bool) → r .applies ≡ b → decide (r ∷ rs) o ≡ decide (r ∷ ss) p
-    go true e = decide-here r rs o e ∙ sym (decide-here r ss p e)
-    go false e = decide-past r rs o e ∙ h e ∙ sym (decide-past r ss p e)
+          record { lowest = g .lowest ∙ ap (λ (x : Refusal). x .number) first; whole = λ n. g .whole n ∙ ap told first }
 
 -- ---- where no refusal applies
 

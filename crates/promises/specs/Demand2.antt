@@ -5,19 +5,19 @@
 -- to its rolls." Document 01, "Numbers for no": "none is given otherwise [..] Success returns the place after the last word used (the start
 -- where none was) and the count of rejected words; words used are batches plus rejected."
 --
---   Allowed refusals                    none of the refusals applies
---   Unfolded bs word rs r               the rolls rs and the last r of a word: one roll for each bound, each below it, and product times
---                                       word = 2^64 times the value of the rolls + the last r, as the paper has it
---   Gives bs word rs                    the word gives these rolls, accepted: the last r is at least t = 2^64 mod product
---   Rejects bs word                     the word is rejected: the last r is below t
---   First bs words from place rs        of the words from a place on, the first that is accepted stands here, and gives these rolls
---   Follows plan words from next ps rs  each batch in turn takes the first accepted word from the place after the one before it: at the
---                                       places ps, with the rolls rs, batch after batch; next is the place after the last
---   Lemire plan words start next rejected Read    it follows for some places and rolls; words used = batches + rejected; the rolls read so
---   Demand2Batch .. Demand2Order        the demand on each operation, on every call that no refusal applies to: it is not refused, and ..
---   FullRun bs run                      a run of words that is named, not empty, ends below 2^64, and has 2^64 / product words
---   Demand2                             the statement: each operation that meets its contract meets its demand; which bounds the plans
---                                       have; when the words suffice; and that the method leaves one possible outcome
+--   Allowed refusals               none of the refusals applies
+--   Unfolded bs word rs r          the rolls rs and the last r of a word: one roll for each bound, each below it, and product times word
+--                                  = 2^64 times the value of the rolls + the last r, as the paper has it
+--   Gives bs word rs               the word gives these rolls, accepted: the last r is at least t = 2^64 mod product
+--   Rejects bs word                the word is rejected: the last r is below t
+--   First bs words from place rs   of the words from a place on, the first that is accepted stands here, and gives these rolls
+--   Follows plan words from next rs    each batch in turn takes the first accepted word from the place after the one before it, and they
+--                                  give the rolls rs, batch after batch; next is the place after the last
+--   Lemire plan words start next rejected Read    it follows for some rolls; words used = batches + rejected; the rolls read so
+--   FullRun bs run                 a run of words that is named, not empty, ends below 2^64, and has 2^64 / product words
+--   Demand2 op                     on every call that no refusal applies to each operation is not refused, and gives what the methods give;
+--                                  which bounds the plans have; when the words suffice; and that the method leaves one possible outcome
+--   HoldsDemand2                   the statement: it holds of all operations that meet their contracts
 use mathlib.Core.Path.{_≡_}
 use mathlib.Core.Logic.{_↔_}
 use mathlib.Core.Bool.{false}
@@ -25,24 +25,23 @@ use mathlib.Core.List.{List, [], _∷_, _++_}
 use Prim.Native.Nat.{ℕ, _+_, _-_, _*_, _/_, _%_, _^_, _<_, _≤_}
 use lib.Dec.{T}
 use lib.ListN.{length, take, drop, getD, replicate}
-use Rattle.arithmetic.specs.Rolls.{product, value, inRange}
-use Rattle.arithmetic.specs.Width.{size64}
-use Rattle.rolls.specs.Run.{run}
+use Rattle.arithmetic.specs.Rolls.{product, value, hasZero, inRange}
+use Rattle.arithmetic.specs.Width.{w64, size64}
+use Rattle.rolls.specs.Run.{run, suffices}
 use Rattle.rolls.specs.Cut.{cut}
-use Rattle.rolls.specs.Inner.{suffices}
-use Rattle.rolls.specs.Outcome.{Refusal}
+use Rattle.rolls.specs.Outcome.{done, Refusal}
+use Rattle.rolls.specs.Operations.{batchRefusals, listRefusals, behindRefusals}
 use Rattle.draws.specs.Shuffle.{shuffleWith, shuffleBounds, shufflePlan}
 use Rattle.draws.specs.Sample.{countup, reservoir}
 use Rattle.draws.specs.Order.{AllBelow, Only}
-use Rattle.draws.specs.Plan.{RollablePlan, PlanOf, Bounded}
-use Rattle.sheet.specs.Sheet.{Numbers, numbers, wordsOf, recordsOf}
+use Rattle.draws.specs.Plan.{RollablePlan, PlanOf}
+use Rattle.draws.specs.Operations.{samplePlan, shuffleRefusals, sampleRefusals, orderRefusals}
+use Rattle.sheet.specs.Sheet.{numbers, wordsOf, recordsOf}
+use Rattle.sheet.specs.Operations.{sheetRefusals, shownDrawn}
 use Rattle.rolls.specs.declared.answer.Batch.{Batch}
 use Rattle.rolls.specs.declared.answer.Behind.{Behind}
-use Rattle.sheet.specs.declared.run.Drawn.{Drawn}
-use Rattle.promises.specs.Contracts.{RollBatch, RollList, WordsBehind, Shuffle, Sample, RollsBehind, RunSheet}
-use Rattle.promises.specs.Contracts.{MeetsBatch, MeetsList, MeetsBehind, MeetsShuffle, MeetsSample, MeetsOrder, MeetsSheet}
-use Rattle.promises.specs.Demand1.{firstOf, samplePlan, batchRefusals, listRefusals, shuffleRefusals, sampleRefusals}
-use Rattle.promises.specs.Demand1.{behindRefusals, orderRefusals, sheetRefusals}
+use Rattle.promises.specs.Contracts.{Operations, Meets}
+use Rattle.promises.specs.Demand1.{firstOf}
 
 abbrev pub Allowed : List Refusal → Type 0
 Allowed refusals = firstOf refusals .applies ≡ false
@@ -65,63 +64,18 @@ pub record First (bs words : List ℕ) (from place : ℕ) (rs : List ℕ) : Type
   pub gives : Gives bs (getD words place 0) rs
   pub before : (i : ℕ) → from ≤ i → i < place → Rejects bs (getD words i 0)
 
-abbrev pub Follows : List (List ℕ) → List ℕ → ℕ → ℕ → List ℕ → List ℕ → Type 0
-Follows [] words from next [] rs = (next ≡ from) × (rs ≡ [])
-Follows [] words from next (p ∷ ps) rs = ⊥
-Follows (bs ∷ plan) words from next [] rs = ⊥
-Follows (bs ∷ plan) words from next (p ∷ ps) rs =
-    First bs words from p (take (length bs) rs) × Follows plan words (p + 1) next ps (drop (length bs) rs)
+abbrev pub Follows : List (List ℕ) → List ℕ → ℕ → ℕ → List ℕ → Type 0
+Follows [] words from next rs = (next ≡ from) × (rs ≡ [])
+Follows (bs ∷ plan) words from next rs =
+    (place : ℕ) × First bs words from place (take (length bs) rs) × Follows plan words (place + 1) next (drop (length bs) rs)
 
 pub record Lemire (plan : List (List ℕ)) (words : List ℕ) (start next rejected : ℕ) (Read : List ℕ → Type 0) : Type 0 where
-  pub places : List ℕ
   pub rolls : List ℕ
-  pub follows : Follows plan words start next places rolls
+  pub follows : Follows plan words start next rolls
   pub used : next ≡ start + (length plan + rejected)
   pub reading : Read rolls
 
--- ---- the operations that use words
-
-abbrev pub Demand2Batch : RollBatch → Type 0
-Demand2Batch op = (words : List ℕ) (start : ℕ) (bs : List ℕ) → AllBelow (2 ^ 64) words → Allowed (batchRefusals words start bs)
-    → let a : Batch = op words start bs in
-    (a .no ≡ 0) × (a .count ≡ length bs)
-    × Lemire (bs ∷ []) words start (a .next) (a .rejected) (λ rs. a .rolls ≡ rs ++ replicate (16 - length bs) 0)
-
-abbrev pub Demand2List : RollList → Type 0
-Demand2List op = (words : List ℕ) (start : ℕ) (bs lent : List ℕ) → AllBelow (2 ^ 64) words → AllBelow (2 ^ 64) bs
-    → Allowed (listRefusals words start bs (length lent))
-    → let (a, after) = op words start bs lent in
-    (a .no ≡ 0) × Lemire (cut (2 ^ 56) bs) words start (a .next) (a .rejected) (λ rs. after ≡ rs ++ drop (length bs) lent)
-
--- Fisher-Yates with these rolls
-abbrev pub Demand2Shuffle : Shuffle → Type 0
-Demand2Shuffle op = (words : List ℕ) (start : ℕ) (xs : List ℕ) → AllBelow (2 ^ 64) words
-    → Allowed (shuffleRefusals words start (length xs))
-    → let (a, after) = op words start xs in
-    (a .no ≡ 0)
-    × Lemire (shufflePlan size64 (length xs)) words start (a .next) (a .rejected) (λ rs. after ≡ shuffleWith (length xs) rs xs)
-
--- the reservoir with these rolls
-abbrev pub Demand2Sample : Sample → Type 0
-Demand2Sample op = (words : List ℕ) (start : ℕ) (xs : List ℕ) (k : ℕ) (lent : List ℕ) → AllBelow (2 ^ 64) words
-    → Allowed (sampleRefusals words start (length xs) k (length lent))
-    → let (a, after) = op words start xs k lent in
-    (a .no ≡ 0)
-    × Lemire (samplePlan (length xs) k) words start (a .next) (a .rejected)
-    (λ rs. after ≡ reservoir (take k xs) (drop k xs) rs ++ drop k lent)
-
--- the six numbers that come back with the draw of a sheet
-abbrev pub six : Drawn → Numbers
-six d = record { words = d .words; wordsAt = d .«words_at»; records = d .records; recordsAt = d .«records_at»; k = d .k; w = d .w }
-
--- the sample, as the operation sample draws it, from start 0 of the sheet's words and records
-abbrev pub Demand2Sheet : RunSheet → Sample → Type 0
-Demand2Sheet op sample = (s lent : List ℕ) → Allowed (sheetRefusals s (length lent))
-    → let (a, slots) = sample (wordsOf s) 0 (recordsOf s) (numbers s .k) lent in
-    let (d, after) = op s lent in
-    (a .no ≡ 0) × (d .no ≡ 0) × (d .next ≡ a .next) × (d .rejected ≡ a .rejected) × (after ≡ slots) × (six d ≡ numbers s)
-
--- ---- the way back
+-- ---- the demand
 
 pub record FullRun (bs : List ℕ) (run : Behind) : Type 0 where
   pub named : (run .no ≡ 0) × (run .next ≡ 0) × (run .rejected ≡ 0)
@@ -129,32 +83,39 @@ pub record FullRun (bs : List ℕ) (run : Behind) : Type 0 where
   pub words : run .last < 2 ^ 64
   pub long : run .last - run .first + 1 ≡ 2 ^ 64 / product bs
 
--- the words from first to last, and no other words, give those rolls, accepted
-abbrev pub Demand2Behind : WordsBehind → Type 0
-Demand2Behind op = (bs rs : List ℕ) → Allowed (behindRefusals bs rs)
-    → FullRun bs (op bs rs) × ((w : ℕ) → w < 2 ^ 64 → Gives bs w rs ↔ ((op bs rs .first ≤ w) × (w ≤ op bs rs .last)))
-
--- the rolls, and no others in range, shuffle 0 .. n - 1 into the order
-abbrev pub Demand2Order : RollsBehind → Type 0
-Demand2Order op = (ys lent : List ℕ) → Allowed (orderRefusals ys (length lent))
-    → let (a, after) = op ys lent in
-    (a .no ≡ 0) × (a .next ≡ 0) × (a .rejected ≡ 0)
-    × (rs : List ℕ) × (after ≡ rs ++ drop (length ys - 1) lent) × Only (length ys) (countup (length ys) 0) ys rs
-
--- ---- the demand
-
-pub record Demand2 : Type 0 where
-  pub roll-batch : (op : RollBatch) → MeetsBatch op → Demand2Batch op
-  pub roll-list : (op : RollList) → MeetsList op → Demand2List op
-  pub shuffle : (op : Shuffle) → MeetsShuffle op → Demand2Shuffle op
-  pub sample : (op : Sample) → MeetsSample op → Demand2Sample op
-  pub run-sheet : (op : RunSheet) (sample : Sample) → MeetsSheet op → MeetsSample sample → Demand2Sheet op sample
-  pub words-behind : (op : WordsBehind) → MeetsBehind op → Demand2Behind op
-  pub rolls-behind : (op : RollsBehind) → MeetsOrder op → Demand2Order op
+pub record Demand2 (op : Operations) : Type 0 where
+  pub roll-batch : (words : List ℕ) (start : ℕ) (bs : List ℕ) → AllBelow (2 ^ 64) words → Allowed (batchRefusals w64 words start bs)
+      → let a : Batch = op .roll-batch words start bs in
+      (a .no ≡ 0) × (a .count ≡ length bs)
+      × Lemire (bs ∷ []) words start (a .next) (a .rejected) (λ rs. a .rolls ≡ rs ++ replicate (16 - length bs) 0)
+  pub roll-list : (words : List ℕ) (start : ℕ) (bs lent : List ℕ) → AllBelow (2 ^ 64) words → AllBelow (2 ^ 64) bs
+      → Allowed (listRefusals w64 words start bs (length lent)) → let (a, after) = op .roll-list words start bs lent in
+      (a .no ≡ 0) × Lemire (cut (2 ^ 56) bs) words start (a .next) (a .rejected) (λ rs. after ≡ rs ++ drop (length bs) lent)
+  -- Fisher-Yates with these rolls
+  pub shuffle : (words : List ℕ) (start : ℕ) (xs : List ℕ) → AllBelow (2 ^ 64) words → Allowed (shuffleRefusals w64 words start (length xs))
+      → let (a, after) = op .shuffle words start xs in (a .no ≡ 0)
+      × Lemire (shufflePlan size64 (length xs)) words start (a .next) (a .rejected) (λ rs. after ≡ shuffleWith (length xs) rs xs)
+  -- the reservoir with these rolls
+  pub sample : (words : List ℕ) (start : ℕ) (xs : List ℕ) (k : ℕ) (lent : List ℕ) → AllBelow (2 ^ 64) words
+      → Allowed (sampleRefusals w64 words start (length xs) k (length lent)) → let (a, after) = op .sample words start xs k lent in (a .no ≡ 0)
+      × Lemire (samplePlan w64 (length xs) k) words start (a .next) (a .rejected)
+      (λ rs. after ≡ reservoir (take k xs) (drop k xs) rs ++ drop k lent)
+  -- the words from first to last, and no other words, give those rolls, accepted
+  pub words-behind : (bs rs : List ℕ) → Allowed (behindRefusals w64 bs rs) → let run : Behind = op .words-behind bs rs in
+      FullRun bs run × ((w : ℕ) → w < 2 ^ 64 → Gives bs w rs ↔ ((run .first ≤ w) × (w ≤ run .last)))
+  -- the rolls, and no others in range, shuffle 0 .. n - 1 into the order
+  pub rolls-behind : (ys lent : List ℕ) → Allowed (orderRefusals ys (length lent)) → let (a, after) = op .rolls-behind ys lent in
+      (a .no ≡ 0) × (a .next ≡ 0) × (a .rejected ≡ 0)
+      × (rs : List ℕ) × (after ≡ rs ++ drop (length ys - 1) lent) × Only (length ys) (countup (length ys) 0) ys rs
+  -- the sample, as the operation sample draws it, from start 0 of the sheet's words and records; the six numbers come back with it
+  pub run-sheet : (s lent : List ℕ) → Allowed (sheetRefusals w64 s (length lent))
+      → let (a, slots) = op .sample (wordsOf s) 0 (recordsOf s) (numbers s .k) lent in
+      let (d, after) = op .run-sheet s lent in
+      (a .no ≡ 0) × (d ≡ shownDrawn s (done slots (a .next) (a .rejected))) × (after ≡ slots)
   -- batch after batch the bounds are those of the list; of a shuffle n, n - 1, .., 2; of a sample k + 1, .., n; and each batch can be rolled
-  pub list-bounds : (bs : List ℕ) → Bounded (2 ^ 64) bs → PlanOf (2 ^ 64) bs (cut (2 ^ 56) bs)
+  pub list-bounds : (bs : List ℕ) → hasZero bs ≡ false → AllBelow (2 ^ 64) bs → PlanOf (2 ^ 64) bs (cut (2 ^ 56) bs)
   pub shuffle-bounds : (n : ℕ) → n ≤ 16384 → PlanOf (2 ^ 56) (shuffleBounds n) (shufflePlan size64 n)
-  pub sample-bounds : (n k : ℕ) → n ≤ 16384 → PlanOf (2 ^ 56) (countup (n - k) (k + 1)) (samplePlan n k)
+  pub sample-bounds : (n k : ℕ) → n ≤ 16384 → PlanOf (2 ^ 56) (countup (n - k) (k + 1)) (samplePlan w64 n k)
   -- of a plan that can be rolled, and of words: number 10 applies exactly where the method gives nothing
   pub words-suffice : (plan : List (List ℕ)) (words : List ℕ) → RollablePlan (2 ^ 64) plan → AllBelow (2 ^ 64) words
       → (start : ℕ) → start ≤ length words
@@ -163,3 +124,6 @@ pub record Demand2 : Type 0 where
   pub one-outcome : (plan : List (List ℕ)) (words : List ℕ) → RollablePlan (2 ^ 64) plan → AllBelow (2 ^ 64) words
       → (start m n r s : ℕ) (xs ys : List ℕ) → Lemire plan words start m r (λ rs. rs ≡ xs) → Lemire plan words start n s (λ rs. rs ≡ ys)
       → (m ≡ n) × (r ≡ s) × (xs ≡ ys)
+
+abbrev pub HoldsDemand2 : Type 0
+HoldsDemand2 = (op : Operations) → Meets op → Demand2 op

@@ -9,16 +9,16 @@
 -- behind an order" gives its rolls. Each batch's part of these rolls, the next of them, as many as it has bounds, goes to the operation
 -- "words behind rolls", which gives the run.
 --
---   Paired R xs ys                     R holds of each x and y at one place, and there are as many of both
---   places xs ys                       the place in xs of each record of ys
---   runsNamed behind plan rs           the run of each batch of a plan, as the operation behind names it
---   InRun run w                        the word lies in the run
---   Produces shuffle words xs ys       the list produces that order of xs, used from place 0, by a shuffle that is not refused
---   Demand3At shuffle rolls behind n   the demand, for n records: the order has its rolls; each batch has a full run (Demand2, FullRun);
---                                      and which lists produce the order
---   Demand3 shuffle rolls behind       the demand, for up to 16,384 records
---   HoldsDemand3                       the statement: it holds of every three operations that meet their contracts
---   OwnPlaces                          and of the records 0 .. n - 1 each is its own place, so an order of them is asked for as it is
+--   Paired R xs ys             R holds of each x and y at one place, and there are as many of both
+--   places xs ys               the place in xs of each record of ys
+--   runsNamed behind plan rs   the run of each batch of a plan, as the operation behind names it
+--   InRun run w                the word lies in the run
+--   Produces got ys            what a shuffle gave is not refused, and is that order
+--   Demand3At op n             the demand, for n records: the order has its rolls; each batch has a full run (Demand2, FullRun); and which
+--                              lists produce the order
+--   Demand3 op                 the demand, for up to 16,384 records
+--   HoldsDemand3               the statement: it holds of all operations that meet their contracts
+--   OwnPlaces                  and of the records 0 .. n - 1 each is its own place, so an order of them is asked for as it is
 use mathlib.Core.Path.{_≡_}
 use mathlib.Core.Logic.{_↔_}
 use mathlib.Core.List.{List, [], _∷_}
@@ -28,9 +28,10 @@ use Rattle.arithmetic.specs.Width.{size64}
 use Rattle.draws.specs.Shuffle.{shufflePlan}
 use Rattle.draws.specs.Sample.{countup}
 use Rattle.draws.specs.Order.{placeOf, AllBelow, Distinct, Reorders}
+use Rattle.rolls.specs.declared.answer.Answer.{Answer}
 use Rattle.rolls.specs.declared.answer.Behind.{Behind}
 use Rattle.promises.specs.Demand2.{FullRun}
-use Rattle.promises.specs.Contracts.{Shuffle, RollsBehind, WordsBehind, MeetsShuffle, MeetsOrder, MeetsBehind}
+use Rattle.promises.specs.Contracts.{Operations, Meets}
 
 abbrev pub Paired : {A B : Type 0} → (A → B → Type 0) → List A → List B → Type 0
 Paired R [] [] = Unit
@@ -42,32 +43,29 @@ unfoldable pub places : List ℕ → List ℕ → List ℕ
 places xs [] = []
 places xs (y ∷ ys) = placeOf y xs ∷ places xs ys
 
-unfoldable pub runsNamed : WordsBehind → List (List ℕ) → List ℕ → List Behind
+unfoldable pub runsNamed : (List ℕ → List ℕ → Behind) → List (List ℕ) → List ℕ → List Behind
 runsNamed behind [] rs = []
 runsNamed behind (bs ∷ plan) rs = behind bs (take (length bs) rs) ∷ runsNamed behind plan (drop (length bs) rs)
 
 abbrev pub InRun : Behind → ℕ → Type 0
 InRun run w = (run .first ≤ w) × (w ≤ run .last)
 
-abbrev pub Produces : Shuffle → List ℕ → List ℕ → List ℕ → Type 0
-Produces shuffle words xs ys = (shuffle words 0 xs .0 .no ≡ 0) × (shuffle words 0 xs .1 ≡ ys)
+abbrev pub Produces : Answer × List ℕ → List ℕ → Type 0
+Produces got ys = (got .0 .no ≡ 0) × (got .1 ≡ ys)
 
-abbrev pub Demand3At : Shuffle → RollsBehind → WordsBehind → ℕ → Type 0
-Demand3At shuffle rolls behind n = (xs ys : List ℕ) → length xs ≡ n → Distinct xs → Reorders xs ys
+abbrev pub Demand3At : Operations → ℕ → Type 0
+Demand3At op n = (xs ys : List ℕ) → length xs ≡ n → Distinct xs → Reorders xs ys
     → let plan : List (List ℕ) = shufflePlan size64 n in
-    let (answer, rs) = rolls (places xs ys) (replicate (n - 1) 0) in
-    let runs : List Behind = runsNamed behind plan rs in
-    (answer .no ≡ 0)
-    × Paired FullRun plan runs
-    × ((words : List ℕ) → length words ≡ length plan → AllBelow (2 ^ 64) words
-    → Produces shuffle words xs ys ↔ Paired InRun runs words)
+    let (answer, rs) = op .rolls-behind (places xs ys) (replicate (n - 1) 0) in
+    let runs : List Behind = runsNamed (op .words-behind) plan rs in
+    (answer .no ≡ 0) × Paired FullRun plan runs
+    × ((words : List ℕ) → length words ≡ length plan → AllBelow (2 ^ 64) words → Produces (op .shuffle words 0 xs) ys ↔ Paired InRun runs words)
 
-abbrev pub Demand3 : Shuffle → RollsBehind → WordsBehind → Type 0
-Demand3 shuffle rolls behind = (n : ℕ) → n ≤ 16384 → Demand3At shuffle rolls behind n
+abbrev pub Demand3 : Operations → Type 0
+Demand3 op = (n : ℕ) → n ≤ 16384 → Demand3At op n
 
 abbrev pub HoldsDemand3 : Type 0
-HoldsDemand3 = (shuffle : Shuffle) (rolls : RollsBehind) (behind : WordsBehind)
-    → MeetsShuffle shuffle → MeetsOrder rolls → MeetsBehind behind → Demand3 shuffle rolls behind
+HoldsDemand3 = (op : Operations) → Meets op → Demand3 op
 
 abbrev pub OwnPlaces : Type 0
 OwnPlaces = (n : ℕ) (ys : List ℕ) → Reorders (countup n 0) ys → places (countup n 0) ys ≡ ys

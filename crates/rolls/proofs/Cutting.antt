@@ -16,8 +16,8 @@ use lib.Seq.{drop-cons, take-suc, length-take-le, getD-drop, append-snoc}
 use borrow.Author.Tests.{lt-ltb, le-ltb, ltb-true}
 use Rattle.arithmetic.specs.Rolls.{product}
 use Rattle.arithmetic.proofs.Limits.{product-snoc}
-use Rattle.rolls.specs.Cut.{joins, cutFrom, cut, begins}
-use Rattle.rolls.specs.Inner.{cutAt}
+use Rattle.rolls.specs.Cut.{joins, cutFrom, cut}
+use Rattle.rolls.specs.Inner.{cutAt, begins}
 
 abbrev pub part : List ℕ → ℕ → ℕ → List ℕ
 part bs at end = take (end - at) (drop at bs)

@@ -1,9 +1,11 @@
 -- Which refusal is given. Assumes nothing.
 --
 --   decide-here, decide-past, decide-none    a refusal that applies is given; one that does not is passed over
+--   decide-under                             two lists of refusals that agree where their head does not apply
 --   in-count, below-count, above-count       a count in its range, or out of it
---   no-start, no-words, words-done           the last two refusals of every operation that uses words
---   supplied-enough, supplied-short          what the answer of a dry run says of the run
+--   supplied-enough                          what the answer of a dry run says of the run
+--   no-start, no-words, words-done           numbers 9 and 10, of an operation that uses words; by the run
+--   words-short, words-drawn                 and by the answer of a dry run
 --   refused-seen, done-seen                  what the caller sees
 use mathlib.Core.Path.{_≡_, refl, sym, ap, ap₂, _∙_}
 use mathlib.Core.Bool.{Bool, true, false, _||_}
@@ -13,10 +15,10 @@ use native.Mathlib.Omega.{arith}
 use lib.Dec.{ltb}
 use lib.ListN.{length, drop}
 use borrow.Author.Tests.{lt-ltb, le-ltb}
-use Rattle.rolls.specs.Run.{Run, ran, short, trace, next, rejected}
-use Rattle.rolls.specs.Outcome.{Outcome, refused, done, Refusal, no, noWord, decide, outside, shown, left}
+use Rattle.rolls.specs.Run.{Run, ran, short, suffices, run, trace, rollsOf, next, rejected}
+use Rattle.rolls.specs.Outcome.{Outcome, refused, done, Refusal, noWord, decide, outside, ofWords, fromRun, shown, left}
 use Rattle.rolls.specs.declared.answer.Answer.{Answer}
-use Rattle.rolls.specs.Inner.{supplied, suffices}
+use Rattle.rolls.specs.Inner.{supplied}
 use Rattle.rolls.specs.declared.supply.Supply.the-variants.{Enough, Short}
 
 pub decide-here : (r : Refusal) (rs : List Refusal) (o : Outcome) → r .applies ≡ true → decide (r ∷ rs) o ≡ refused (r .number) (r .batch)
@@ -30,6 +32,14 @@ decide-past r rs o e = rw (e, decide)
 pub decide-none : (o : Outcome) → decide [] o ≡ o
 unfolding decide
 decide-none o = refl
+
+pub decide-under : (r : Refusal) (rs ss : List Refusal) (o p : Outcome) → (r .applies ≡ false → decide rs o ≡ decide ss p)
+    → decide (r ∷ rs) o ≡ decide (r ∷ ss) p
+decide-under r rs ss o p h = go (r .applies) refl
+  where
+    go : (b : Bool) → r .applies ≡ b → decide (r ∷ rs) o ≡ decide (r ∷ ss) p
+    go true e = decide-here r rs o e ∙ sym (decide-here r ss p e)
+    go false e = decide-past r rs o e ∙ h e ∙ sym (decide-past r ss p e)
 
 -- ---- counts
 
@@ -48,25 +58,6 @@ above-count low high n h = ap (λ (b : Bool). ltb n low || b) (lt-ltb high n h) 
 
 -- ---- the words
 
-module _ (words : List ℕ) (start : ℕ) (r : Run) (o : Outcome) where
-  pub no-start : length words < start → decide (no 9 (ltb (length words) start) ∷ noWord r ∷ []) o ≡ refused 9 0
-  no-start h = decide-here _ _ _ (lt-ltb (length words) start h)
-
-  module _ (h : start ≤ length words) where
-    pub no-words : (k : ℕ) → r ≡ short k → decide (no 9 (ltb (length words) start) ∷ noWord r ∷ []) o ≡ refused 10 k
-    no-words k e =
-        decide-past _ _ _ (le-ltb (length words) start h) ∙ decide-here _ _ _ (ap (λ (x : Run). noWord x .applies) e)
-        ∙ ap (λ (x : Run). refused (noWord x .number) (noWord x .batch)) e
-
-    pub words-done : suffices r ≡ true → decide (no 9 (ltb (length words) start) ∷ noWord r ∷ []) o ≡ o
-    words-done e = decide-past _ _ _ (le-ltb (length words) start h) ∙ decide-past _ _ _ (go r e) ∙ decide-none o
-      where
-        go : (x : Run) → suffices x ≡ true → noWord x .applies ≡ false
-        go (ran ts) f = refl
-        go (short k) f = sym f
-
--- ---- the answer of a dry run
-
 pub record Known (start : ℕ) (r : Run) (to more : ℕ) : Type 0 where
   pub enough : suffices r ≡ true
   pub place : next start (trace r) ≡ to
@@ -76,9 +67,37 @@ pub supplied-enough : (start : ℕ) (r : Run) (to more : ℕ) → supplied start
 supplied-enough start (ran ts) to more e = record { enough = refl; place = cc; passed = cc }
 supplied-enough start (short k) to more e = absurd (let z : _≡_ {A = ℕ} 0 1 = cc in let n : ⊥ = omega arith in n)
 
-pub supplied-short : (start : ℕ) (r : Run) (k : ℕ) → supplied start r ≡ Short k → r ≡ short k
+supplied-short : (start : ℕ) (r : Run) (k : ℕ) → supplied start r ≡ Short k → r ≡ short k
 supplied-short start (ran ts) k e = absurd (let z : _≡_ {A = ℕ} 0 1 = cc in let n : ⊥ = omega arith in n)
 supplied-short start (short j) k e = ap short (cc)
+
+module _ (L : ℕ) (plan : List (List ℕ)) (words : List ℕ) (start : ℕ) (o : Outcome) where
+  pub no-start : length words < start → decide (ofWords L plan words start) o ≡ refused 9 0
+  no-start h = decide-here _ _ _ (lt-ltb (length words) start h)
+
+  module _ (h : start ≤ length words) where
+    pub no-words : (k : ℕ) → run L plan words start ≡ short k → decide (ofWords L plan words start) o ≡ refused 10 k
+    no-words k e =
+        decide-past _ _ _ (le-ltb (length words) start h) ∙ decide-here _ _ _ (ap (λ (x : Run). noWord x .applies) e)
+        ∙ ap (λ (x : Run). refused (noWord x .number) (noWord x .batch)) e
+
+    pub words-done : suffices (run L plan words start) ≡ true → decide (ofWords L plan words start) o ≡ o
+    words-done e = decide-past _ _ _ (le-ltb (length words) start h) ∙ decide-past _ _ _ (go (run L plan words start) e) ∙ decide-none o
+      where
+        go : (x : Run) → suffices x ≡ true → noWord x .applies ≡ false
+        go (ran ts) f = refl
+        go (short k) f = sym f
+
+    pub words-short : (k : ℕ) → supplied start (run L plan words start) ≡ Short k → decide (ofWords L plan words start) o ≡ refused 10 k
+    words-short k e = no-words k (supplied-short start (run L plan words start) k e)
+
+pub words-drawn : (L : ℕ) (plan : List (List ℕ)) (words : List ℕ) (start : ℕ) (reading : List ℕ → List ℕ) → start ≤ length words
+    → (to more : ℕ) → supplied start (run L plan words start) ≡ Enough to more
+    → decide (ofWords L plan words start) (fromRun L plan words start reading) ≡ done (reading (rollsOf L plan (trace (run L plan words start)))) to more
+words-drawn L plan words start reading h to more e =
+    let k = supplied-enough start (run L plan words start) to more e in
+    words-done L plan words start (fromRun L plan words start reading) h (k .enough)
+    ∙ ap₂ (done (reading (rollsOf L plan (trace (run L plan words start))))) (k .place) (k .passed)
 
 -- ---- what the caller sees of one outcome: the answer, and the lent list
 

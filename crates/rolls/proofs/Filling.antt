@@ -6,12 +6,11 @@ use Prim.Native.Nat.{ℕ, _+_, _-_, _^_, _<_, _≤_}
 use native.Mathlib.Omega.{arith}
 use lib.ListN.{length, take, drop, length-append, drop-of-length-le, take-append-drop}
 use borrow.Rule.Slice.PartMut.{putMid}
-use Rattle.arithmetic.specs.Rolls.{rolls, threshold, accepted}
-use Rattle.arithmetic.specs.Products.{hasZero}
+use Rattle.arithmetic.specs.Rolls.{rolls, threshold, accepted, hasZero}
 use Rattle.arithmetic.proofs.Rolls.{rolls-length}
-use Rattle.rolls.specs.Run.{Taken, Found, found, missing, find, Run, runFrom, run, rollsOf}
+use Rattle.rolls.specs.Run.{Taken, Found, found, missing, find, Run, runFrom, run, rollsOf, suffices}
 use Rattle.rolls.specs.Cut.{joins, cutFrom, cut}
-use Rattle.rolls.specs.Inner.{passes, searched, suffices, cutAt}
+use Rattle.rolls.specs.Inner.{passes, searched, cutAt}
 use Rattle.rolls.specs.declared.cut.Cut.{Cut}
 use Rattle.rolls.specs.declared.search.Search.the-variants.{Hit, Missing}
 use Rattle.rolls.proofs.Cutting.{part}

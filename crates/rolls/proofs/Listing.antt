@@ -7,12 +7,11 @@ use native.Mathlib.Nat.{mod-eq-of-lt}
 use native.Mathlib.Omega.{arith}
 use lib.ListN.{length, take, drop, getD, length-drop}
 use lib.Seq.{drop-drop, getD-take, getD-drop}
-use Rattle.arithmetic.specs.Rolls.{product, threshold, accepted}
-use Rattle.arithmetic.specs.Products.{hasZero}
+use Rattle.arithmetic.specs.Rolls.{product, threshold, accepted, hasZero}
 use Rattle.arithmetic.proofs.Limits.{zero-nowhere, product-some}
 use Rattle.rolls.specs.Run.{find}
-use Rattle.rolls.specs.Cut.{cut, begins}
-use Rattle.rolls.specs.Inner.{passes, cutAt}
+use Rattle.rolls.specs.Cut.{cut}
+use Rattle.rolls.specs.Inner.{passes, cutAt, begins}
 use Rattle.rolls.specs.declared.cut.Cut.{Cut}
 use Rattle.rolls.proofs.Cutting.{part, Begun, begun}
 use Rattle.rolls.proofs.Finding.{find-batch}

@@ -7,17 +7,17 @@ use native.Mathlib.Nat.{suc-sub-suc, sub-zero, mod-eq-of-lt}
 use native.Mathlib.Omega.{arith}
 use lib.Dec.{ltb}
 use lib.ListN.{length, drop, replicate}
-use Rattle.arithmetic.specs.Rolls.{rolls, product, threshold, accepted}
-use Rattle.arithmetic.specs.Products.{hasZero, against}
+use Rattle.arithmetic.specs.Rolls.{rolls, product, threshold, accepted, hasZero}
+use Rattle.arithmetic.specs.Products.{against}
 use Rattle.arithmetic.specs.declared.bounds.Product.the-variants.{Below, Whole, Above}
 use Rattle.arithmetic.specs.Width.{w64}
 use borrow.Author.Tests.{ltb-false, le-ltb, lt-ltb}
 use Rattle.arithmetic.proofs.Limits.{or-left, or-right, held-below, held-whole, held-above}
 use Rattle.arithmetic.proofs.Rolls.{rolls-length}
-use Rattle.rolls.specs.Run.{Taken, found, missing, find, Run, ran, runFrom, run, rollsOf, next, rejected}
-use Rattle.rolls.specs.Outcome.{refused, done, no, noWord, decide, outside, shownBatch}
-use Rattle.rolls.specs.Operations.{rolled, rollBatch}
-use Rattle.rolls.specs.Inner.{suffices, passes, searched}
+use Rattle.rolls.specs.Run.{Taken, found, missing, find, Run, ran, suffices, runFrom, run, trace, rollsOf, next, rejected}
+use Rattle.rolls.specs.Outcome.{refused, done, decide, outside, ofWords, fromRun, shownBatch}
+use Rattle.rolls.specs.Operations.{rollBatch}
+use Rattle.rolls.specs.Inner.{passes, searched}
 use Rattle.rolls.specs.declared.search.Search.the-variants.{Hit, Missing}
 use Rattle.rolls.proofs.Deciding.{decide-here, decide-past, no-start, no-words, words-done}
 use Rattle.rolls.proofs.Finding.{find-batch, find-within, searched-hit, searched-missing}
@@ -46,28 +46,24 @@ module _ (words : List ℕ) (start : ℕ) (bs : List ℕ) where
       one-product e = decide-past _ _ _ count ∙ decide-past _ _ _ zeros ∙ decide-here _ _ _ e
 
       module _ (fits : ltb (2 ^ 64) (product bs) ≡ false) where
-        ran-one : Run
-        ran-one = run 64 (bs ∷ []) words start
-
-        rest : rollBatch w64 words start bs
-            ≡ decide (no 9 (ltb (length words) start) ∷ noWord ran-one ∷ []) (rolled w64 (bs ∷ []) start ran-one)
-        unfolding rollBatch ran-one
+        rest : rollBatch w64 words start bs ≡ decide (ofWords 64 (bs ∷ []) words start) (fromRun 64 (bs ∷ []) words start (λ rs. rs))
+        unfolding rollBatch
         rest = decide-past _ _ _ count ∙ decide-past _ _ _ zeros ∙ decide-past _ _ _ fits
 
         pub one-start : length words < start → rollBatch w64 words start bs ≡ refused 9 0
-        one-start h = rest ∙ no-start words start ran-one _ h
+        one-start h = rest ∙ no-start 64 (bs ∷ []) words start _ h
 
         one-missing : start ≤ length words → find (accepted 64 bs) (drop start words) start ≡ missing
             → rollBatch w64 words start bs ≡ refused 10 0
-        unfolding ran-one
-        one-missing h e = rest ∙ no-words words start ran-one _ h 0 (run-missing 64 bs [] words start 0 e)
+        one-missing h e = rest ∙ no-words 64 (bs ∷ []) words start _ h 0 (run-missing 64 bs [] words start 0 e)
 
         one-hit : start ≤ length words → (t : Taken) → find (accepted 64 bs) (drop start words) start ≡ found t
             → rollBatch w64 words start bs ≡ done (rolls 64 bs (t .word)) (t .place + 1) (t .place - start)
-        unfolding ran-one runFrom rollsOf next rejected
+        unfolding runFrom rollsOf next rejected
         one-hit h t e =
-            let r : ran-one ≡ ran (t ∷ []) = run-hit 64 bs [] words start 0 e in
-            rest ∙ words-done words start ran-one _ h (ap suffices r) ∙ ap (rolled w64 (bs ∷ []) start) r
+            let r : run 64 (bs ∷ []) words start ≡ ran (t ∷ []) = run-hit 64 bs [] words start 0 e in
+            rest ∙ words-done 64 (bs ∷ []) words start _ h (ap suffices r)
+            ∙ ap (λ (x : Run). done (rollsOf 64 (bs ∷ []) (trace x)) (next start (trace x)) (rejected start (trace x))) r
             ∙ ap₂ (λ (l : List ℕ) (n : ℕ). done l (t .place + 1) n) (append-nil (rolls 64 bs (t .word))) (omega arith)
 
         -- the search as the code makes it, with the product at 64 bits and the threshold

@@ -12,8 +12,8 @@ use Prim.Native.Nat.{ℕ, _+_, _-_, _<_, _≤_}
 use native.Mathlib.Omega.{arith}
 use lib.ListN.{length, drop}
 use Rattle.arithmetic.specs.Rolls.{rolls, accepted}
-use Rattle.rolls.specs.Run.{Taken, Found, found, missing, find, Run, ran, short, after, trace, runFrom, rollsOf, next, rejected}
-use Rattle.rolls.specs.Inner.{searched, supplied, suffices}
+use Rattle.rolls.specs.Run.{Taken, Found, found, missing, find, Run, ran, short, after, trace, runFrom, rollsOf, next, rejected, suffices}
+use Rattle.rolls.specs.Inner.{searched, supplied}
 use Rattle.rolls.specs.declared.search.Search.the-variants.{Hit, Missing}
 use Rattle.rolls.specs.declared.supply.Supply.{Supply}
 use Rattle.rolls.specs.declared.supply.Supply.the-variants.{Enough, Short}

@@ -5,8 +5,7 @@ use mathlib.Core.List.{List, _∷_}
 use Prim.Native.Nat.{ℕ, _+_, _^_, _<_, _≤_}
 use native.Mathlib.Omega.{arith}
 use lib.ListN.{length, drop, drop-of-length-le}
-use Rattle.arithmetic.specs.Rolls.{threshold, accepted}
-use Rattle.arithmetic.specs.Products.{hasZero}
+use Rattle.arithmetic.specs.Rolls.{threshold, accepted, hasZero}
 use Rattle.rolls.specs.Run.{find, runFrom, run, next, rejected}
 use Rattle.rolls.specs.Cut.{cut}
 use Rattle.rolls.specs.Inner.{passes, searched, supplied, cutAt}

@@ -6,8 +6,8 @@ use Prim.Native.Nat.{ℕ, _^_, _<_}
 use native.Mathlib.Omega.{arith}
 use lib.Dec.{ltb}
 use lib.ListN.{length}
-use Rattle.arithmetic.specs.Rolls.{product, value, inRange, firstWord, lastWord}
-use Rattle.arithmetic.specs.Products.{hasZero, against}
+use Rattle.arithmetic.specs.Rolls.{product, value, inRange, firstWord, lastWord, hasZero}
+use Rattle.arithmetic.specs.Products.{against}
 use Rattle.arithmetic.specs.declared.bounds.Product.the-variants.{Below, Whole}
 use Rattle.arithmetic.specs.Width.{w64}
 use Rattle.arithmetic.proofs.Limits.{held-below, held-whole}

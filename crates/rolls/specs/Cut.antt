@@ -3,7 +3,6 @@
 --   joins limit batch b       whether the bound b joins the batch that is begun
 --   cutFrom limit batch bs    the batches of the list bs behind a batch that is begun
 --   cut limit bs              the batches of the list bs
---   begins plan               the first batch of a plan
 use mathlib.Core.Bool.{Bool, true, false, _&&_}
 use mathlib.Core.List.{List, [], _∷_, _++_}
 use Prim.Native.Nat.{ℕ, _*_}
@@ -24,7 +23,3 @@ cutFrom limit batch (b ∷ bs) =
 unfoldable pub cut : ℕ → List ℕ → List (List ℕ)
 cut limit [] = []
 cut limit (b ∷ bs) = cutFrom limit (b ∷ []) bs
-
-abbrev pub begins : List (List ℕ) → List ℕ
-begins [] = []
-begins (batch ∷ plan) = batch

@@ -6,8 +6,9 @@
 --   no n test                   the number n, which applies where the test holds
 --   noWord ran                  number 10, which applies where the words ended before some batch had an accepted word
 --   decide refusals outcome     the first refusal that applies; where none does, the outcome
---   used start ran values       the values, with the words that the run used
 --   outside low high n          whether n is below low or above high
+--   ofWords L plan words start  numbers 9 and 10, of an operation that takes words from the start on for the batches of a plan
+--   fromRun L plan words start reading   what comes of the run of a plan: its rolls by their reading, and the words that it used
 --   shown start outcome         the answer that the caller gets
 --   left before outcome         what a lent list then holds, which held before
 use mathlib.Core.Bool.{Bool, true, false, _||_}
@@ -15,7 +16,7 @@ use mathlib.Core.List.{List, [], _∷_, _++_}
 use Prim.Native.Nat.{ℕ, _-_}
 use lib.Dec.{ltb}
 use lib.ListN.{length, drop, getD, replicate}
-use Rattle.rolls.specs.Run.{Run, ran, short, trace, next, rejected}
+use Rattle.rolls.specs.Run.{Taken, Run, ran, short, run, trace, rollsOf, next, rejected}
 use Rattle.rolls.specs.declared.answer.Answer.{Answer}
 use Rattle.rolls.specs.declared.answer.Batch.{Batch}
 use Rattle.rolls.specs.declared.answer.Behind.{Behind}
@@ -41,11 +42,15 @@ unfoldable pub decide : List Refusal → Outcome → Outcome
 decide [] o = o
 decide (r ∷ rs) o = elim (r .applies) [ true ↦ refused (r .number) (r .batch) | false ↦ decide rs o ]
 
-abbrev pub used : ℕ → Run → List ℕ → Outcome
-used start r values = done values (next start (trace r)) (rejected start (trace r))
-
 abbrev pub outside : ℕ → ℕ → ℕ → Bool
 outside low high n = ltb n low || ltb high n
+
+abbrev pub ofWords : ℕ → List (List ℕ) → List ℕ → ℕ → List Refusal
+ofWords L plan words start = no 9 (ltb (length words) start) ∷ noWord (run L plan words start) ∷ []
+
+abbrev pub fromRun : ℕ → List (List ℕ) → List ℕ → ℕ → (List ℕ → List ℕ) → Outcome
+fromRun L plan words start reading =
+    let ts : List Taken = trace (run L plan words start) in done (reading (rollsOf L plan ts)) (next start ts) (rejected start ts)
 
 -- ---- what the caller sees
 

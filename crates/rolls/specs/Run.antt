@@ -4,6 +4,7 @@
 --   find test words place   the first word that passes the test; the first word of the list stands at the place
 --   Run                     what each batch took, in order, or the number of the first batch, from 0, that got no word
 --   run L plan words start  the run of the words over the plan, a list of batches, from the start on
+--   suffices ran            whether the words suffice: each batch got its word
 --   trace ran               what each batch took
 --   rollsOf L plan trace    the rolls of the whole plan, batch after batch
 --   next start trace        the place after the last word used; the start where none was
@@ -43,6 +44,10 @@ runFrom L (bs ∷ plan) words start batch =
 
 abbrev pub run : ℕ → List (List ℕ) → List ℕ → ℕ → Run
 run L plan words start = runFrom L plan words start 0
+
+abbrev pub suffices : Run → Bool
+suffices (ran ts) = true
+suffices (short batch) = false
 
 abbrev pub trace : Run → List Taken
 trace (ran ts) = ts

@@ -15,13 +15,12 @@ ghost use mathlib.Core.Bool.{true, false};
 ghost use mathlib.Core.List.{_++_};
 ghost use Prim.Native.Nat.{_≤_, _^_};
 ghost use lib.ListN.{length, drop};
-ghost use Rattle.arithmetic.specs.Products.{hasZero};
+ghost use Rattle.arithmetic.specs.Rolls.{hasZero};
 ghost use Rattle.arithmetic.specs.Width.{w64};
-ghost use Rattle.rolls.specs.Run.{run, trace, rollsOf};
+ghost use Rattle.rolls.specs.Run.{run, trace, rollsOf, suffices};
 ghost use Rattle.rolls.specs.Cut.{cut};
 ghost use Rattle.rolls.specs.Outcome.{shown, left};
 ghost use Rattle.rolls.specs.Operations.{rollList};
-ghost use Rattle.rolls.specs.Inner.{suffices};
 
 // The most bounds of a list.
 const MAX_BOUNDS: usize = 4096;

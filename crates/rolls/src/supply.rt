@@ -7,7 +7,7 @@ ghost use mathlib.Core.Path.{_≡_};
 ghost use mathlib.Core.Bool.{false};
 ghost use Prim.Native.Nat.{_≤_, _^_};
 ghost use lib.ListN.{length};
-ghost use Rattle.arithmetic.specs.Products.{hasZero};
+ghost use Rattle.arithmetic.specs.Rolls.{hasZero};
 ghost use Rattle.rolls.specs.Run.{run};
 ghost use Rattle.rolls.specs.Cut.{cut};
 ghost use Rattle.rolls.specs.Inner.{supplied};

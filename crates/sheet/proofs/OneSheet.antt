@@ -1,6 +1,6 @@
 -- A draw sheet, refusal by refusal. Assumes nothing.
 --
---   area-count, area-of, sampled              the entries of an area in the front of an array, and their sample
+--   area-count, area-of, area-sampled         the entries of an area in the front of an array, and their sample
 --   sheet-unsound, sheet-size, sheet-sample   the refusals 1 and 3, and then the sample
 --   no-slot, too-many, too-early, in-size     k and w out of range, or in it
 --   refused-drawn, drawn-refused, drawn-done  what the caller sees
@@ -8,22 +8,24 @@
 --   drawn-room                                the k that comes back is within the room
 use mathlib.Core.Path.{_≡_, refl, sym, ap, ap₂, _∙_}
 use mathlib.Core.Bool.{Bool, true, false, not, _||_, or-true}
-use mathlib.Core.List.{List, [], _++_}
-use Prim.Native.Nat.{ℕ, _<_, _≤_}
+use mathlib.Core.List.{List, [], _∷_, _++_}
+use Prim.Native.Nat.{ℕ, _<_, _≤_, zero-le}
 use native.Mathlib.Omega.{arith}
 use lib.Dec.{ltb}
 use lib.ListN.{length, take}
 use lib.Seq.{take-at}
 use borrow.Author.Tests.{lt-ltb, le-ltb}
 use Rattle.arithmetic.specs.Width.{w64}
-use Rattle.rolls.specs.Outcome.{Outcome, refused, done, no, outside, shown, left}
+use Rattle.arithmetic.proofs.Limits.{or-left}
+use Rattle.rolls.specs.Run.{run}
+use Rattle.rolls.specs.Outcome.{Outcome, refused, done, Refusal, no, noWord, decide, outside, shown, left}
 use Rattle.rolls.specs.declared.answer.Answer.{Answer}
-use Rattle.rolls.proofs.Deciding.{decide-here, decide-past, decide-none, in-count, below-count, above-count}
-use Rattle.draws.specs.Operations.{sample}
+use Rattle.rolls.proofs.Deciding.{decide-here, decide-past, decide-under, in-count, below-count, above-count}
+use Rattle.draws.specs.Operations.{samplePlan, sampled, sample}
 use Rattle.sheet.specs.Sheet.{numbers, entries, wordsOf, recordsOf, isSound}
 use Rattle.sheet.specs.Operations.{runSheet, shownDrawn}
 use Rattle.sheet.specs.declared.run.Drawn.{Drawn}
-use Rattle.sheet.proofs.Soundness.{entries-length, sheet-room}
+use Rattle.sheet.proofs.Soundness.{sound-known, entries-length, sheet-records, sheet-room}
 
 -- ---- an area, read into the front of an array
 
@@ -38,10 +40,10 @@ module _ (size : ℕ) (s : List ℕ) (c at : ℕ) (last rest : List ℕ) (e : la
   area-of count from f g = area-back ∙ ap₂ (λ (m n : ℕ). entries size m n s) f g
 
 -- the sample of the areas as they were read is that of the sheet
-pub sampled : (s : List ℕ) (room : ℕ) (before out : List ℕ) (a : Answer) (ws xs : List ℕ) (k : ℕ) → ws ≡ wordsOf s → xs ≡ recordsOf s → k ≡ numbers s .k
+pub area-sampled : (s : List ℕ) (room : ℕ) (before out : List ℕ) (a : Answer) (ws xs : List ℕ) (k : ℕ) → ws ≡ wordsOf s → xs ≡ recordsOf s → k ≡ numbers s .k
     → (a ≡ shown 0 (sample w64 ws 0 xs k room)) × (out ≡ left before (sample w64 ws 0 xs k room))
     → (a ≡ shown 0 (sample w64 (wordsOf s) 0 (recordsOf s) (numbers s .k) room)) × (out ≡ left before (sample w64 (wordsOf s) 0 (recordsOf s) (numbers s .k) room))
-sampled s room before out a ws xs k e f g v =
+area-sampled s room before out a ws xs k e f g v =
     let o : sample w64 ws 0 xs k room ≡ sample w64 (wordsOf s) 0 (recordsOf s) (numbers s .k) room = cc in
     (v .0 ∙ ap (shown 0) o, v .1 ∙ ap (left before) o)
 
@@ -65,6 +67,17 @@ module _ (n k w : ℕ) where
 
 -- ---- the refusals
 
+-- 6 and 10, which a sample from start 0 can meet where its count and its size are allowed
+abbrev six-or-ten : List ℕ → ℕ → ℕ → ℕ → List Refusal
+six-or-ten words k room n = no 6 (ltb room k) ∷ noWord (run 64 (samplePlan w64 n k) words 0) ∷ []
+
+sample-met : (words xs : List ℕ) (k room : ℕ) → length xs ≤ 16384 → outside 1 (length xs) k ≡ false
+    → sample w64 words 0 xs k room ≡ decide (six-or-ten words k room (length xs)) (sampled w64 words 0 xs k)
+unfolding sample
+sample-met words xs k room h size =
+    decide-past _ _ _ (in-count 0 16384 (length xs) zero-le h) ∙ decide-past _ _ _ size
+    ∙ decide-under (no 6 (ltb room k)) _ _ _ _ (λ fits. decide-past _ _ _ (le-ltb (length words) 0 zero-le))
+
 module _ (s : List ℕ) (room : ℕ) where
   pub sheet-unsound : isSound s ≡ false → runSheet w64 s room ≡ refused 1 0
   unfolding runSheet
@@ -79,8 +92,13 @@ module _ (s : List ℕ) (room : ℕ) where
         → runSheet w64 s room ≡ sample w64 (wordsOf s) 0 (recordsOf s) (numbers s .k) room
     unfolding runSheet
     sheet-sample e =
+        let n : length (recordsOf s) ≡ numbers s .records = entries-length 4 (numbers s .records) (numbers s .recordsAt) s in
+        let o : Outcome = sampled w64 (wordsOf s) 0 (recordsOf s) (numbers s .k) in
         decide-past (no 1 (not (isSound s))) _ _ (ap not sound)
-        ∙ decide-past (no 3 (misfit (numbers s .records) (numbers s .k) (numbers s .w))) _ _ e ∙ decide-none _
+        ∙ decide-past (no 3 (misfit (numbers s .records) (numbers s .k) (numbers s .w))) _ _ e
+        ∙ ap (λ (m : ℕ). decide (six-or-ten (wordsOf s) (numbers s .k) room m) o) (sym n)
+        ∙ sym (sample-met (wordsOf s) (recordsOf s) (numbers s .k) room
+        (omega (arith, sheet-records s (sound-known s sound))) (rw n (or-left _ _ e)))
 
 -- ---- what the caller sees
 

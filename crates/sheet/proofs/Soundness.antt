@@ -5,11 +5,10 @@
 --   sound-rest                   the last test, where all others passed
 --   entries-length               an area has as many entries as its count
 --   sheet-words, sheet-records   a sound sheet has at most 8,188 words and at most 16,377 records
---   sheet-list                   the draw of any sheet: 1, 3, 6 and 10 are looked for, in this order
---   sheet-refusal, four-only     so a refusal has one of these four numbers
+--   sheet-refusal, four-only     a refusal has one of the numbers 1, 3, 6 and 10
 --   sheet-count, sheet-start     numbers 2 and 9 cannot be met on a sheet
 --   sheet-room                   a draw that was done had room for its k
-use mathlib.Core.Path.{_≡_, refl, sym, ap, ap₂, _∙_}
+use mathlib.Core.Path.{_≡_, refl, sym, ap, _∙_}
 use mathlib.Core.Logic.{_↔_, _⊎_, inl, inr}
 use mathlib.Core.Bool.{Bool, true, false, not, _&&_, _||_}
 use mathlib.Core.List.{List, [], _∷_}
@@ -17,17 +16,15 @@ use Prim.Native.Nat.{ℕ, zero, suc, _+_, _-_, _<_, _≤_, min, max}
 use native.Mathlib.Omega.{arith}
 use lib.Arith.{le→nltb}
 use lib.Dec.{T, leb, ltb, not-T, leb→le, le→leb, ltb→lt, nltb→le}
-use lib.ListN.{length, take, drop}
-use borrow.Author.Tests.{le-ltb, not-false, ltb-true, ltb-false}
+use lib.ListN.{length}
+use borrow.Author.Tests.{ltb-true, ltb-false}
 use Rattle.arithmetic.specs.Width.{Width}
-use Rattle.rolls.specs.Run.{Run, ran, short, run, trace, rollsOf}
-use Rattle.rolls.specs.Cut.{cut}
-use Rattle.rolls.specs.Outcome.{Outcome, refused, done, Refusal, no, noWord, decide, used, outside}
-use Rattle.rolls.proofs.Deciding.{decide-here, decide-past, in-count}
-use Rattle.draws.specs.Sample.{countup, reservoir}
-use Rattle.draws.specs.Operations.{sample}
-use Rattle.sheet.specs.Sheet.{Numbers, numbers, number, entries, wordsOf, recordsOf, wordsEnd, recordsEnd, Sound, isSound}
-use Rattle.sheet.specs.Operations.{runSheet}
+use Rattle.rolls.specs.Run.{Run, ran, short, run}
+use Rattle.rolls.specs.Outcome.{Outcome, refused, done, Refusal, no, noWord, decide, outside}
+use Rattle.rolls.proofs.Deciding.{decide-here, decide-past}
+use Rattle.draws.specs.Operations.{samplePlan}
+use Rattle.sheet.specs.Sheet.{Numbers, numbers, entries, wordsOf, recordsOf, wordsEnd, recordsEnd, Sound, isSound}
+use Rattle.sheet.specs.Operations.{sheetRefusals, runSheet}
 
 -- ---- six tests
 
@@ -140,65 +137,6 @@ module _ (s : List ℕ) (v : Sound s) where
   pub sheet-records : length (recordsOf s) ≤ 16377
   sheet-records = rw (entries-length 4 (numbers s .records) (numbers s .recordsAt) s) (omega (arith, v .allowed .1, v .offsets .1, v .within .1))
 
--- ---- the draw of a sheet
-
--- inside the draw's own refusals 1 and 3, a sample's 2 and 9 do not apply, nor its 3
-passed-over : (unsound size early count room start : Bool) (r : Refusal) (o : Outcome) → (unsound ≡ false → count ≡ false) → start ≡ false
-    → decide (no 1 unsound ∷ no 3 (size || early) ∷ []) (decide (no 2 count ∷ no 3 size ∷ no 6 room ∷ no 9 start ∷ r ∷ []) o)
-    ≡ decide (no 1 unsound ∷ no 3 (size || early) ∷ no 6 room ∷ r ∷ []) o
-unfolding decide
-passed-over true size early count room start r o f e = refl
-passed-over false size early count room start r o f e =
-    ap₂ (λ (a b : Bool). decide (no 3 (size || early) ∷ []) (decide (no 2 a ∷ no 3 size ∷ no 6 room ∷ no 9 b ∷ r ∷ []) o)) (f refl) e ∙ go size early
-  where
-    go : (size early : Bool) → decide (no 3 (size || early) ∷ []) (decide (no 3 size ∷ no 6 room ∷ r ∷ []) o) ≡ decide (no 3 (size || early) ∷ no 6 room ∷ r ∷ []) o
-    go true early = refl
-    go false true = refl
-    go false false = refl
-
-module _ (W : Width) (s : List ℕ) (room : ℕ) where
-  -- the draw, with the number of records as the sample counts them
-  counted : ℕ → Outcome
-  counted n =
-      let h : Numbers = numbers s in
-      let plan : List (List ℕ) = cut (W .limit) (countup (n - h .k) (h .k + 1)) in
-      let rolled : Run = run (W .bits) plan (wordsOf s) 0 in
-      decide
-      (no 1 (not (isSound s))
-      ∷ no 3 (outside 1 (h .records) (h .k) || ltb (h .k) (h .w))
-      ∷ [])
-      (decide
-      (no 2 (outside 0 16384 n)
-      ∷ no 3 (outside 1 n (h .k))
-      ∷ no 6 (ltb room (h .k))
-      ∷ no 9 (ltb (length (wordsOf s)) 0)
-      ∷ noWord rolled
-      ∷ [])
-      (used 0 rolled (reservoir (take (h .k) (recordsOf s)) (drop (h .k) (recordsOf s)) (rollsOf (W .bits) plan (trace rolled)))))
-
-  pub sheet-list : let h : Numbers = numbers s in
-      let plan : List (List ℕ) = cut (W .limit) (countup (h .records - h .k) (h .k + 1)) in
-      let rolled : Run = run (W .bits) plan (wordsOf s) 0 in
-      runSheet W s room
-      ≡ decide
-      (no 1 (not (isSound s))
-      ∷ no 3 (outside 1 (h .records) (h .k) || ltb (h .k) (h .w))
-      ∷ no 6 (ltb room (h .k))
-      ∷ noWord rolled
-      ∷ [])
-      (used 0 rolled (reservoir (take (h .k) (recordsOf s)) (drop (h .k) (recordsOf s)) (rollsOf (W .bits) plan (trace rolled))))
-  unfolding runSheet sample counted
-  sheet-list =
-      let h : Numbers = numbers s in
-      ap counted (entries-length 4 (h .records) (h .recordsAt) s)
-      ∙ passed-over (not (isSound s)) (outside 1 (h .records) (h .k)) (ltb (h .k) (h .w)) (outside 0 16384 (h .records)) (ltb room (h .k))
-      (ltb (length (wordsOf s)) 0) _ _ few (le-ltb (length (wordsOf s)) 0 (omega arith))
-    where
-      few : not (isSound s) ≡ false → outside 0 16384 (numbers s .records) ≡ false
-      few e =
-          in-count 0 16384 (numbers s .records) (omega arith)
-          (omega (arith, sheet-records s (sound-known s (not-false _ e)), entries-length 4 (numbers s .records) (numbers s .recordsAt) s))
-
 -- ---- the numbers of a refusal
 
 -- a refusal that is given is one of the list
@@ -219,9 +157,9 @@ abbrev pub OneOfFour : ℕ → Type 0
 OneOfFour n = (n ≡ 1) ⊎ ((n ≡ 3) ⊎ ((n ≡ 6) ⊎ (n ≡ 10)))
 
 pub sheet-refusal : (W : Width) (s : List ℕ) (room n batch : ℕ) → runSheet W s room ≡ refused n batch → OneOfFour n
+unfolding runSheet
 sheet-refusal W s room n batch e =
-    let h : Numbers = numbers s in
-    go (run (W .bits) (cut (W .limit) (countup (h .records - h .k) (h .k + 1))) (wordsOf s) 0) (given _ _ _ _ n batch (sym (sheet-list W s room) ∙ e))
+    go (run (W .bits) (samplePlan W (numbers s .records) (numbers s .k)) (wordsOf s) 0) (given (sheetRefusals W s room) _ _ _ n batch e)
   where
     go : (r : Run) → Among n (no 1 (not (isSound s)) ∷ no 3 false ∷ no 6 false ∷ noWord r ∷ []) → OneOfFour n
     go r (inl f) = inl f
@@ -254,4 +192,5 @@ room-known false false true r o drawn to more e = absurd (let z : _≡_ {A = ℕ
 room-known false false false r o drawn to more e = refl
 
 pub sheet-room : (W : Width) (s : List ℕ) (room : ℕ) (drawn : List ℕ) (to more : ℕ) → runSheet W s room ≡ done drawn to more → numbers s .k ≤ room
-sheet-room W s room drawn to more e = ltb-false room (numbers s .k) (room-known _ _ _ _ _ drawn to more (sym (sheet-list W s room) ∙ e))
+unfolding runSheet
+sheet-room W s room drawn to more e = ltb-false room (numbers s .k) (room-known _ _ _ _ _ drawn to more e)

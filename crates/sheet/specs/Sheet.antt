@@ -32,14 +32,9 @@ pub record Numbers : Type 0 where
 
 -- count of words, byte offset of words, count of records, byte offset of records, k, w
 abbrev pub numbers : List ℕ → Numbers
-numbers s = record {
-  words = number 4 0 s;
-  wordsAt = number 4 4 s;
-  records = number 4 8 s;
-  recordsAt = number 4 12 s;
-  k = number 4 16 s;
-  w = number 4 20 s;
-}
+numbers s =
+    let at : ℕ → ℕ = λ i. number 4 i s in
+    record { words = at 0; wordsAt = at 4; records = at 8; recordsAt = at 12; k = at 16; w = at 20 }
 
 unfoldable pub entries : ℕ → ℕ → ℕ → List ℕ → List ℕ
 entries size zero at s = []

@@ -2,7 +2,7 @@
 -- are what the sample is given. Assumes nothing.
 use lib.ListN.{length}
 use Rattle.sheet.specs.Sheet.{numbers}
-use Rattle.sheet.proofs.OneSheet.{area-count, area-of, sampled}
+use Rattle.sheet.proofs.OneSheet.{area-count, area-of, area-sampled}
 use borrow.Author.Needs.{needs}
 use Rattle.sheet.proofs.run.sample_sheet.Statement.{statement}
 use Rattle.sheet.proofs.run.sample_sheet.Tie as tie
@@ -75,7 +75,7 @@ returns c =
     let g = w .before .before in
     let a = g .before .before .before .before .before .before .args in
     let s = a .sheet .now in
-    sampled s (length (a .slots .now)) (a .slots .now) _ _ _ _ _
+    area-sampled s (length (a .slots .now)) (a .slots .now) _ _ _ _ _
     (area-of 8 _ _ _ _ _ (w .read-words .ensures) (numbers s .words) (numbers s .wordsAt) (g .before .before .before .read-number .ensures) (g .read-number4 .ensures))
     (area-of 4 _ _ _ _ _ (r .read-records .ensures) (numbers s .records) (numbers s .recordsAt) (g .before .before .read-number2 .ensures) (r .before .before .read-number5 .ensures))
     (g .before .read-number3 .ensures) (q .sample-records .ensures .0, q .sample-records .ensures .1)

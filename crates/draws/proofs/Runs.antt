@@ -4,15 +4,14 @@
 --   InRuns L plan rs words   one word for each batch, and each lies in the run behind its batch's part of the rolls
 --   FullRuns L plan rs       each of these runs ends below 2^L, and has 2^L / product words, whatever the rolls
 --   Rolled L plan rs r       of the run r: each batch got its word, and the rolls are rs
---   Gives values outcome     not refused, and these are the values
+--   DoneWith values outcome  not refused, and these are the values
 use mathlib.Core.Path.{_≡_}
 use mathlib.Core.List.{List, [], _∷_}
 use Prim.Native.Nat.{ℕ, _+_, _-_, _/_, _^_, _<_, _≤_}
 use lib.Dec.{T}
 use lib.ListN.{length, take, drop}
 use Rattle.arithmetic.specs.Rolls.{product, firstWord, lastWord}
-use Rattle.rolls.specs.Run.{Run, trace, rollsOf}
-use Rattle.rolls.specs.Inner.{suffices}
+use Rattle.rolls.specs.Run.{Run, trace, rollsOf, suffices}
 use Rattle.rolls.specs.Outcome.{Outcome, refused, done}
 
 abbrev pub InRuns : ℕ → List (List ℕ) → List ℕ → List ℕ → Type 0
@@ -32,6 +31,6 @@ FullRuns L (bs ∷ plan) rs =
 abbrev pub Rolled : ℕ → List (List ℕ) → List ℕ → Run → Type 0
 Rolled L plan rs r = T (suffices r) × (rollsOf L plan (trace r) ≡ rs)
 
-abbrev pub Gives : List ℕ → Outcome → Type 0
-Gives values (refused number batch) = ⊥
-Gives values (done drawn next rejected) = drawn ≡ values
+abbrev pub DoneWith : List ℕ → Outcome → Type 0
+DoneWith values (refused number batch) = ⊥
+DoneWith values (done drawn next rejected) = drawn ≡ values
