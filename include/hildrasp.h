@@ -1,10 +1,16 @@
 /*
  * The C face of Hildrasp: random words from outside become dice rolls, shuffles and samples.
  *
- * A list is a pointer and a count. Every call is answered for every input. `no` is 0 where nothing is refused, and
- * else the number of the refusal; a refusal returns the start place as given in `next` (0 where the call takes none)
- * and zeros elsewhere, except that HILDRASP_WORDS also names the first batch, from 0, that got no word. Every lent
- * list is then exactly what it was.
+ * A list is a pointer and a count. The pointer is aligned and good for as many numbers as the count says; it may be
+ * null where the count is 0. A list that a call writes in overlaps no other list of the call. Nothing else is asked:
+ * every call is answered for every input, and while the rules stand the same input has the same answer.
+ *
+ * `no` is 0 where nothing is refused, and else the number of the refusal; a refusal returns the start place as given in
+ * `next` (0 where the call takes none) and zeros elsewhere, except that HILDRASP_WORDS also names the first batch, from
+ * 0, that got no word. Every lent list is then exactly what it was.
+ *
+ * Calls use the stack alone: hildrasp_sample about 256 KiB of it, hildrasp_run_sheet 384 KiB, hildrasp_rolls_behind
+ * 64 KiB, the others little.
  */
 #ifndef HILDRASP_H
 #define HILDRASP_H
@@ -30,10 +36,10 @@ enum {
     HILDRASP_WORDS = 10   /* the list ends before some batch has an accepted word */
 };
 
-/* The answer of a call that writes into a lent list. */
+/* The answer of a list, a shuffle, a sample and the rolls behind an order, where next, rejected and batch are 0. */
 typedef struct {
     uint64_t no;
-    size_t next;     /* the place after the last word used */
+    size_t next;     /* the place after the last word used, the start where none was */
     size_t rejected; /* the count of rejected words */
     size_t batch;    /* at HILDRASP_WORDS, the first batch that got no word */
 } hildrasp_answer;
@@ -79,10 +85,6 @@ hildrasp_answer hildrasp_roll_list(const uint64_t *words, size_t word_count, siz
                                    const uint64_t *bounds, size_t bound_count,
                                    uint64_t *rolls, size_t room);
 
-/* Names the words that give these rolls, accepted. Refusals: 2, 4, 5, 7. */
-hildrasp_behind hildrasp_words_behind(const uint64_t *bounds, size_t bound_count,
-                                      const uint64_t *rolls, size_t roll_count);
-
 /* Shuffles 0 to 16,384 records in the lent list itself. Refusals: 2, 9, 10. */
 hildrasp_answer hildrasp_shuffle(const uint64_t *words, size_t word_count, size_t start,
                                  uint32_t *records, size_t record_count);
@@ -91,6 +93,10 @@ hildrasp_answer hildrasp_shuffle(const uint64_t *words, size_t word_count, size_
 hildrasp_answer hildrasp_sample(const uint64_t *words, size_t word_count, size_t start,
                                 const uint32_t *records, size_t record_count, size_t k,
                                 uint32_t *slots, size_t room);
+
+/* Names the words that give these rolls, accepted. Refusals: 2, 4, 5, 7. */
+hildrasp_behind hildrasp_words_behind(const uint64_t *bounds, size_t bound_count,
+                                      const uint64_t *rolls, size_t roll_count);
 
 /* Names the rolls that shuffle 0, 1, .., n - 1 into this order, in the lent list `rolls`. Refusals: 2, 6, 8. */
 hildrasp_answer hildrasp_rolls_behind(const uint32_t *order, size_t order_count,

@@ -3,7 +3,7 @@
 //!
 //! This is the safe Rust face of the proved library. An operation that uses words is lent the whole list and a start
 //! place counted from 0. Every call is answered for every input: with a result, or with a [`Refusal`], and then each
-//! list lent to it is exactly what it was. The answers to the same input never change.
+//! list lent to it is exactly what it was. Under the same rules the answer to the same input never changes.
 //!
 //! [`raw`] shows the library's answers as C sees them; [`oracle`] is an independent program with the same meaning,
 //! against which the library is tested.
@@ -18,6 +18,7 @@ mod refusal;
 
 use std::ops::RangeInclusive;
 
+pub use raw::Numbers;
 pub use refusal::Refusal;
 
 /// The words that an operation used. Words used are batches plus rejected words.
@@ -50,18 +51,8 @@ impl Rolls {
 pub struct Draw {
     /// The words that the draw used.
     pub used: Used,
-    /// The count of words on the sheet.
-    pub words: u32,
-    /// The byte offset of words.
-    pub words_at: u32,
-    /// The count of records on the sheet.
-    pub records: u32,
-    /// The byte offset of records.
-    pub records_at: u32,
-    /// The sample size.
-    pub k: u32,
-    /// The count of early reviews: the first w slots are early, the others late.
-    pub w: u32,
+    /// The six numbers that the sheet starts with.
+    pub numbers: Numbers,
 }
 
 /// Rolls one batch: one word gives a roll for each of 1 to 16 bounds, whose product is at most 2^64.
@@ -74,9 +65,10 @@ pub struct Draw {
 /// **Refusals, in this order:** 2 [`Count`](Refusal::Count), 4 [`Zero`](Refusal::Zero),
 /// 5 [`Product`](Refusal::Product), 9 [`Start`](Refusal::Start), 10 [`Words`](Refusal::Words).
 ///
-/// **Cost:** a multiplication for each bound and word, and one division.
+/// **Cost:** a division for each bound and one more; a multiplication for each word looked at; the two halves of a
+/// product for each roll.
 ///
-/// The answer to the same words, start and bounds never changes.
+/// Under the same rules the answer to the same words, start and bounds never changes.
 ///
 /// ```
 /// // Of the words 0 and 1, bound 2^64 - 1 rejects the first, and the second gives 0.
@@ -104,9 +96,10 @@ pub fn roll_batch(words: &[u64], start: usize, bounds: &[u64]) -> Result<Rolls, 
 /// 9 [`Start`](Refusal::Start), 10 [`Words`](Refusal::Words). The lent list then stays the same, also where words run
 /// out at a late batch.
 ///
-/// **Cost:** linear in the bounds and the words used, with a division for each batch.
+/// **Cost:** two passes over bounds and words, each with a division for each bound that may join and a remainder for
+/// each batch; the two halves of a product for each roll.
 ///
-/// The answer to the same words, start and bounds never changes.
+/// Under the same rules the answer to the same words, start and bounds never changes.
 ///
 /// ```
 /// // Seventeen bounds of 1 are cut as 16 and 1: two words are used.
@@ -131,7 +124,7 @@ pub fn roll_list(words: &[u64], start: usize, bounds: &[u64], rolls: &mut [u64])
 ///
 /// **Cost:** constant.
 ///
-/// The answer to the same bounds and rolls never changes.
+/// Under the same rules the answer to the same bounds and rolls never changes.
 ///
 /// ```
 /// let run = hildrasp::words_behind(&[2, 6], &[0, 0])?;
@@ -157,9 +150,9 @@ pub fn words_behind(bounds: &[u64], rolls: &[u64]) -> Result<RangeInclusive<u64>
 /// **Refusals, in this order:** 2 [`Count`](Refusal::Count), 9 [`Start`](Refusal::Start),
 /// 10 [`Words`](Refusal::Words). The records then stay where they were, also where words run out at the last batch.
 ///
-/// **Cost:** linear in the records and the words used, with a division for each batch.
+/// **Cost:** two passes over the words, each with a remainder for each batch; an exchange for each record.
 ///
-/// The answer to the same words, start and records never changes.
+/// Under the same rules the answer to the same words, start and records never changes.
 ///
 /// ```
 /// // Three records are one batch; it rejects the word 0.
@@ -189,9 +182,9 @@ pub fn shuffle(words: &[u64], start: usize, records: &mut [u32]) -> Result<Used,
 /// **Refusals, in this order:** 2 [`Count`](Refusal::Count), 3 [`Sample`](Refusal::Sample), 6 [`Room`](Refusal::Room),
 /// 9 [`Start`](Refusal::Start), 10 [`Words`](Refusal::Words). The slots then stay the same.
 ///
-/// **Cost:** linear in the records and the words used, with a division for each batch.
+/// **Cost:** as a list of n - k bounds, and two arrays of 16,384 numbers whatever n is.
 ///
-/// The answer to the same words, start, records and k never changes.
+/// Under the same rules the answer to the same words, start, records and k never changes.
 ///
 /// ```
 /// // One of three records: word 0 is rejected, and word 1 rolls 0 for record 205 and again for record 309.
@@ -213,9 +206,9 @@ pub fn sample(words: &[u64], start: usize, records: &[u32], k: usize, slots: &mu
 /// **Refusals, in this order:** 2 [`Count`](Refusal::Count), 6 [`Room`](Refusal::Room), 8 [`Order`](Refusal::Order).
 /// The lent list then stays the same.
 ///
-/// **Cost:** linear in n.
+/// **Cost:** linear in n, and a table of 16,384 marks whatever n is.
 ///
-/// The answer to the same order never changes.
+/// Under the same rules the answer to the same order never changes.
 ///
 /// ```
 /// let mut rolls = [9; 2];
@@ -240,9 +233,9 @@ pub fn rolls_behind(order: &[u32], rolls: &mut [u64]) -> Result<(), Refusal> {
 /// **Refusals, in this order:** 1 [`Sheet`](Refusal::Sheet), 3 [`Sample`](Refusal::Sample), 6 [`Room`](Refusal::Room),
 /// 10 [`Words`](Refusal::Words). The slots then stay the same.
 ///
-/// **Cost:** linear in the sheet's length, with a division for each batch.
+/// **Cost:** a copy of each word and each record, in arrays of the most that a sheet holds; then as [`sample`].
 ///
-/// The answer to the same sheet never changes.
+/// Under the same rules the answer to the same sheet never changes.
 ///
 /// ```
 /// let mut sheet = Vec::new();
@@ -258,16 +251,15 @@ pub fn rolls_behind(order: &[u32], rolls: &mut [u64]) -> Result<(), Refusal> {
 /// let mut slots = [0];
 /// let draw = hildrasp::run_sheet(&sheet, &mut slots)?;
 /// assert_eq!(slots, [309]);
-/// assert_eq!((draw.records, draw.k, draw.w), (3, 1, 1));
+/// assert_eq!((draw.numbers.records, draw.numbers.k, draw.numbers.w), (3, 1, 1));
 /// assert_eq!(draw.used, hildrasp::Used { next: 2, rejected: 1 });
 /// # Ok::<(), hildrasp::Refusal>(())
 /// ```
 pub fn run_sheet(sheet: &[u8], slots: &mut [u32]) -> Result<Draw, Refusal> {
-    let drawn = raw::run_sheet(sheet, slots);
-    let raw::Drawn { no, next, rejected, batch, words, words_at, records, records_at, k, w } = drawn;
+    let raw::Drawn { no, next, rejected, batch, numbers } = raw::run_sheet(sheet, slots);
     match Refusal::given(no, batch) {
         Some(refusal) => Err(refusal),
-        None => Ok(Draw { used: Used { next, rejected }, words, words_at, records, records_at, k, w }),
+        None => Ok(Draw { used: Used { next, rejected }, numbers }),
     }
 }
 

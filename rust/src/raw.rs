@@ -47,6 +47,24 @@ pub struct Behind {
     pub last: u64,
 }
 
+/// The six numbers that a sheet starts with. The header has them flat in `hildrasp_drawn`, which is laid out the same.
+#[repr(C)]
+#[derive(Debug, Clone, Copy, PartialEq, Eq, Default)]
+pub struct Numbers {
+    /// The count of words.
+    pub words: u32,
+    /// The byte offset of words.
+    pub words_at: u32,
+    /// The count of records.
+    pub records: u32,
+    /// The byte offset of records.
+    pub records_at: u32,
+    /// The sample size.
+    pub k: u32,
+    /// The count of early reviews: the first w slots are early, the others late.
+    pub w: u32,
+}
+
 /// A draw from a sheet, with the six numbers that the sheet starts with.
 #[repr(C)]
 #[derive(Debug, Clone, Copy, PartialEq, Eq)]
@@ -59,18 +77,8 @@ pub struct Drawn {
     pub rejected: usize,
     /// At number 10, the first batch, from 0, that got no word.
     pub batch: usize,
-    /// The count of words.
-    pub words: u32,
-    /// The byte offset of words.
-    pub words_at: u32,
-    /// The count of records.
-    pub records: u32,
-    /// The byte offset of records.
-    pub records_at: u32,
-    /// The sample size.
-    pub k: u32,
-    /// The count of early reviews.
-    pub w: u32,
+    /// The six numbers, zeros on a refusal.
+    pub numbers: Numbers,
 }
 
 extern "C" {
@@ -119,7 +127,7 @@ extern "C" {
 }
 
 // Safety, for every call below: each pointer and the count beside it are those of one slice, which lives through the
-// call, and the library asks nothing else of its caller.
+// call; a slice that is written in overlaps no other, since it is borrowed `&mut`.
 
 /// Rolls one batch.
 pub fn roll_batch(words: &[u64], start: usize, bounds: &[u64]) -> Batch {

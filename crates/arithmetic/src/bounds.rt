@@ -1,4 +1,4 @@
-// What a batch's bounds come to: their product, whether it passes a limit, and the threshold t.
+// What a batch's bounds come to: whether one is 0, their product, whether it passes a limit, and the threshold t.
 ghost use mathlib.Core.Path.{_≡_};
 ghost use mathlib.Core.Bool.{false};
 ghost use Prim.Native.Nat.{_*_, _<_};
@@ -13,6 +13,20 @@ pub enum Product {
     Above,
 }
 
+// Whether some bound is 0.
+pub fn has_zero(bounds: &[u64]) -> bool
+    ensures { λ r. ⌜ r ≡ hasZero (now (bounds .entry)) ⌝ }
+{
+    let mut i: usize = 0;
+    while i < bounds.len() {
+        if bounds[i] == 0 {
+            return true;
+        }
+        i += 1;
+    }
+    false
+}
+
 // Whether p * b is at most the limit.
 pub fn within(p: u64, b: u64, limit: u64) -> bool
     requires { ⌜ 0 < b ⌝ }
@@ -22,7 +36,7 @@ pub fn within(p: u64, b: u64, limit: u64) -> bool
 }
 
 // p * b, held against 2^64. It is 2^64 where p * b - 1, which is (p - 1) * b + (b - 1), is the largest word.
-pub fn product_of_two(p: u64, b: u64) -> Product
+fn product_of_two(p: u64, b: u64) -> Product
     requires { ⌜ 0 < b ⌝ }
     ensures { λ r. ⌜ r ≡ against (p * b) ⌝ }
 {
@@ -36,7 +50,7 @@ pub fn product_of_two(p: u64, b: u64) -> Product
 }
 
 // The product so far, with one bound more.
-pub fn grow(held: Product, b: u64) -> Product
+fn grow(held: Product, b: u64) -> Product
     requires { ⌜ 0 < b ⌝ }
     ensures { λ r. ⌜ r ≡ grown held b ⌝ }
 {
@@ -72,18 +86,4 @@ pub fn threshold_of(b: u64) -> u64
     ensures { λ r. ⌜ r ≡ threshold 64 b ⌝ }
 {
     std::num::wrapping_sub_u64(0, b) % b
-}
-
-// Whether some bound is 0.
-pub fn has_zero(bounds: &[u64]) -> bool
-    ensures { λ r. ⌜ r ≡ hasZero (now (bounds .entry)) ⌝ }
-{
-    let mut i: usize = 0;
-    while i < bounds.len() {
-        if bounds[i] == 0 {
-            return true;
-        }
-        i += 1;
-    }
-    false
 }

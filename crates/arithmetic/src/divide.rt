@@ -3,13 +3,14 @@ ghost use mathlib.Core.Path.{_≡_};
 ghost use Prim.Native.Nat.{_+_, _*_, _/_, _%_, _^_, _<_};
 ghost use Rattle.arithmetic.specs.Rolls.{up};
 
-pub struct Division {
-    pub quotient: u64,
-    pub remainder: u64,
+// What a division gives.
+struct Division {
+    quotient: u64,
+    remainder: u64,
 }
 
 // high * 2^64 + low, divided by b. The quotient fits a word since high is below b.
-pub fn divide(high: u64, low: u64, b: u64) -> Division
+fn divide(high: u64, low: u64, b: u64) -> Division
     requires { ⌜ high < b ⌝ }
     ensures { λ r. ⌜ (r .quotient ≡ (high * 2 ^ 64 + low) / b) × (r .remainder ≡ (high * 2 ^ 64 + low) % b) ⌝ }
 {

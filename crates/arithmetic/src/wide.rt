@@ -3,6 +3,7 @@
 ghost use mathlib.Core.Path.{_≡_};
 ghost use Prim.Native.Nat.{_*_, _/_, _%_, _^_};
 
+// 2^32.
 const HALF: u64 = 4294967296;
 
 // a * b / 2^64, rounded down.

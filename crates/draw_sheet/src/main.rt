@@ -11,7 +11,7 @@ use sheet::text::slot_line;
 ghost use Prim.Native.Nat.{_+_, _<_, _^_};
 
 // Room for every slot: no sheet has as many records.
-const ROOM: usize = 16384;
+const MAX_SLOTS: usize = 16384;
 
 fn print_refusal(number: u64, batch: usize) -> bool {
     let mut line = [0u8; LINE];
@@ -55,7 +55,7 @@ fn print_slots(slots: &[u32], w: u32) -> bool {
 fn main() {
     let mut input = io::large_buffer();
     let n = io::read_full(STDIN_FILENO, &mut input);
-    let mut slots = [0u32; ROOM];
+    let mut slots = [0u32; MAX_SLOTS];
     let drawn = run_sheet(&input[..n], &mut slots);
     if drawn.no != 0 {
         print_refusal(drawn.no, drawn.batch);

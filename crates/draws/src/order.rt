@@ -79,7 +79,8 @@ fn write_behind(order: &[u32], marks: &mut [u32], rolls: &mut [u64])
 //
 // An order is a list that holds each of 0, 1, .., n - 1 once. These rolls, and no others in range, give it. Refusals, the lowest that
 // applies: 2 above 16,384 records, 6 the lent list shorter than n - 1, 8 the list is not an order; the lent list is then exactly what
-// it was. No word is used. Three passes over n places and a table of 16,384 marks, with no search. Behind 1, 2, 0 the rolls are 0, 0.
+// it was. No word is used; next and rejected are 0. Three passes over n places and a table of 16,384 marks, with no search. Behind 1, 2,
+// 0 the rolls are 0, 0. While the rules stand the same input has the same answer.
 pub fn rolls_behind(order: &[u32], rolls: &mut [u64]) -> Answer
     ensures answer { λ r. ⌜ r ≡ shown 0 (rollsBehind (now (order .entry)) (length (now (rolls .entry)))) ⌝ }
     ensures rolls { λ r. ⌜ now (rolls .exit) ≡ left (now (rolls .entry)) (rollsBehind (now (order .entry)) (length (now (rolls .entry)))) ⌝ }

@@ -19,7 +19,7 @@ ghost use Rattle.draws.specs.Sample.{countup, reservoir};
 ghost use Rattle.draws.specs.Operations.{sample};
 
 // Fills the list with from, from + 1, and so on.
-pub fn count_up(bounds: &mut [u64], from: u64)
+fn count_up(bounds: &mut [u64], from: u64)
     requires { ⌜ from + length (now bounds) < 2 ^ 64 ⌝ }
     ensures { λ r. ⌜ now (bounds .exit) ≡ countup (length (now (bounds .entry))) from ⌝ }
 {
@@ -31,7 +31,7 @@ pub fn count_up(bounds: &mut [u64], from: u64)
 }
 
 // Puts the first k records into the first k slots.
-pub fn take_first(records: &[u32], k: usize, slots: &mut [u32])
+fn take_first(records: &[u32], k: usize, slots: &mut [u32])
     requires { ⌜ (k ≤ length (now records)) × (k ≤ length (now slots)) ⌝ }
     ensures { λ r. ⌜ now (slots .exit) ≡ take k (now (records .entry)) ++ drop k (now (slots .entry)) ⌝ }
 {
@@ -43,7 +43,7 @@ pub fn take_first(records: &[u32], k: usize, slots: &mut [u32])
 }
 
 // For each record from place k on, with its roll j: if j is below k, slot j gets the record.
-pub fn take_later(records: &[u32], k: usize, rolls: &[u64], slots: &mut [u32])
+fn take_later(records: &[u32], k: usize, rolls: &[u64], slots: &mut [u32])
     requires { ⌜ (k + length (now rolls) ≡ length (now records)) × (k ≤ length (now slots)) ⌝ }
     ensures { λ r. ⌜ now (slots .exit) ≡ reservoir (take k (now (slots .entry))) (drop k (now (records .entry))) (now (rolls .entry)) ++ drop k (now (slots .entry)) ⌝ }
 {
@@ -58,7 +58,7 @@ pub fn take_later(records: &[u32], k: usize, rolls: &[u64], slots: &mut [u32])
 }
 
 // Draws into the slots, where it is known that the words suffice for the bounds.
-pub fn fill_slots(
+fn fill_slots(
     words: &[u64],
     start: usize,
     records: &[u32],
@@ -71,14 +71,14 @@ pub fn fill_slots(
     ensures { λ r. ⌜ now (slots .exit) ≡ reservoir (take k (now (records .entry))) (drop k (now (records .entry))) (rollsOf 64 (cut (2 ^ 56) (now (bounds .entry))) (trace (run 64 (cut (2 ^ 56) (now (bounds .entry))) (now (words .entry)) start))) ++ drop k (now (slots .entry)) ⌝ }
 {
     let count = bounds.len();
-    let mut rolls = [0u64; 16384];
+    let mut rolls = [0u64; MAX_RECORDS];
     write_list(words, start, bounds, &mut rolls[..count]);
     take_first(records, k, slots);
     take_later(records, k, &rolls[..count], slots);
 }
 
 // The sample with its bounds laid out, where no refusal before number 10 applies.
-pub fn draw_sample(
+fn draw_sample(
     words: &[u64],
     start: usize,
     records: &[u32],
@@ -110,8 +110,9 @@ pub fn draw_sample(
 // The first k records are put in the slots; each later one, at place i, takes the slot of its roll with bound i + 1 if there is one.
 // The bounds k + 1, .., n are cut as a list of bounds; with k = n no word is used. Refusals, the lowest that applies: 2 more than
 // 16,384 records, 3 k is 0 or above n, 6 fewer than k slots, 9 start above the number of words, 10 the words end before some batch
-// has one; the slots are then exactly what they were. Two passes over the words, one multiplication for each word looked at and one
-// for each record past k. Of 101, 205, 309 with k = 1 and words 0, 1 it takes 309: next is 2 and one word is rejected.
+// has one; the slots are then exactly what they were. As a list of n - k bounds, and two local arrays of 16,384 numbers whatever n
+// is. Of 101, 205, 309 with k = 1 and words 0, 1 it takes 309: next is 2 and one word is rejected. While the rules stand the same input
+// has the same answer.
 pub fn sample_records(
     words: &[u64],
     start: usize,
@@ -139,7 +140,7 @@ pub fn sample_records(
         return refused_answer(refusal::START, start, 0);
     }
     let count = n - k;
-    let mut bounds = [0u64; 16384];
+    let mut bounds = [0u64; MAX_RECORDS];
     count_up(&mut bounds[..count], k as u64 + 1);
     draw_sample(words, start, records, k, &bounds[..count], slots)
 }

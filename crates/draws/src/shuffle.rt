@@ -22,11 +22,11 @@ ghost use Rattle.rolls.specs.Outcome.{shown, left};
 ghost use Rattle.draws.specs.Shuffle.{exchange, shuffleWith, countdown, shufflePlan};
 ghost use Rattle.draws.specs.Operations.{shuffle};
 
-// The most records of a draw.
+// Records, 0 to 16,384.
 pub const MAX_RECORDS: usize = 16384;
 
 // Exchanges the records at places i and j.
-pub fn exchange_records(records: &mut [u32], i: usize, j: usize)
+fn exchange_records(records: &mut [u32], i: usize, j: usize)
     requires { ⌜ (i < length (now records)) × (j < length (now records)) ⌝ }
     ensures { λ r. ⌜ now (records .exit) ≡ exchange (now (records .entry)) i j ⌝ }
 {
@@ -37,7 +37,7 @@ pub fn exchange_records(records: &mut [u32], i: usize, j: usize)
 
 // Places s records by the rolls of one word, with m still to place: for each bound in turn, the record at place roll is exchanged with
 // the last of those that are left.
-pub fn place_batch(records: &mut [u32], m: usize, s: usize, word: u64)
+fn place_batch(records: &mut [u32], m: usize, s: usize, word: u64)
     requires { ⌜ (s ≤ m) × (m ≤ length (now records)) ⌝ }
     ensures { λ r. ⌜ now (records .exit) ≡ shuffleWith m (rolls 64 (countdown s m) word) (now (records .entry)) ⌝ }
 {
@@ -54,7 +54,7 @@ pub fn place_batch(records: &mut [u32], m: usize, s: usize, word: u64)
 }
 
 // Shuffles the records, where it is known that the words suffice.
-pub fn place_all(words: &[u64], start: usize, records: &mut [u32])
+fn place_all(words: &[u64], start: usize, records: &mut [u32])
     requires { ⌜ (start ≤ length (now words)) × (length (now records) ≤ 16384) × (suffices (run 64 (shufflePlan size64 (length (now records))) (now words) start) ≡ true) ⌝ }
     ensures { λ r. ⌜ now (records .exit) ≡ shuffleWith (length (now (records .entry))) (rollsOf 64 (shufflePlan size64 (length (now (records .entry)))) (trace (run 64 (shufflePlan size64 (length (now (records .entry)))) (now (words .entry)) start))) (now (records .entry)) ⌝ }
 {
@@ -74,6 +74,7 @@ pub fn place_all(words: &[u64], start: usize, records: &mut [u32])
                 m -= s;
             }
             Search::Missing => {
+                // never reached: the words are known to suffice
                 return;
             }
         }
@@ -84,8 +85,9 @@ pub fn place_all(words: &[u64], start: usize, records: &mut [u32])
 //
 // Each batch takes the first word after the one before it that it accepts; 0 or 1 record uses none. Refusals, the lowest that applies:
 // 2 more than 16,384 records, 9 start above the number of words, 10 the words end before some batch has one; the records are then
-// exactly what they were. Two passes over the words, one multiplication for each word looked at and one for each record. Of 0, 1, 2
-// with words 0, 1 it makes 1, 2, 0: next is 2 and one word is rejected.
+// exactly what they were. Two passes over the words, each with a multiplication for each record and each word looked at and a
+// remainder for each batch; the two halves of a product for each record. Of 0, 1, 2 with words 0, 1 it makes 1, 2, 0: next is 2 and
+// one word is rejected. While the rules stand the same input has the same answer.
 pub fn shuffle_records(words: &[u64], start: usize, records: &mut [u32]) -> Answer
     ensures answer { λ r. ⌜ r ≡ shown start (shuffle w64 (now (words .entry)) start (now (records .entry))) ⌝ }
     ensures records { λ r. ⌜ now (records .exit) ≡ left (now (records .entry)) (shuffle w64 (now (words .entry)) start (now (records .entry))) ⌝ }

@@ -12,7 +12,8 @@ ghost use Rattle.rolls.specs.Run.{run};
 ghost use Rattle.rolls.specs.Inner.{supplied};
 ghost use Rattle.draws.specs.Shuffle.{countdown, shufflePlan};
 
-// The size of the next batch with m records still to place.
+// The size of the next batch with m records still to place: m from 2,049 to 16,384, 4; from 513 to 2,048, 5; from 7 to 512, 6; from
+// 2 to 6, m - 1.
 pub fn batch_size(m: usize) -> usize
     requires { ⌜ 0 < m ⌝ }
     ensures { λ r. ⌜ r ≡ size64 m ⌝ }
@@ -45,7 +46,7 @@ pub fn product_down(m: usize, s: usize) -> u64
     p
 }
 
-// Takes a word for each batch of a shuffle of n records, and keeps only where the last one stood and how many were rejected.
+// Takes a word for each batch of a shuffle of n records, and keeps none.
 pub fn supply_shuffle(words: &[u64], start: usize, n: usize) -> Supply
     requires { ⌜ (start ≤ length (now words)) × (n ≤ 16384) ⌝ }
     ensures { λ r. ⌜ r ≡ supplied start (run 64 (shufflePlan size64 n) (now (words .entry)) start) ⌝ }

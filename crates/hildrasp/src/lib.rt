@@ -33,13 +33,6 @@ pub extern "C" fn hildrasp_roll_list(
 }
 
 #[no_mangle]
-pub extern "C" fn hildrasp_words_behind(bounds: &[u64], rolls: &[u64]) -> Behind
-    ensures { λ r. ⌜ r ≡ shownBehind (wordsBehind w64 (now (bounds .entry)) (now (rolls .entry))) ⌝ }
-{
-    rolls::behind::words_behind(bounds, rolls)
-}
-
-#[no_mangle]
 pub extern "C" fn hildrasp_shuffle(words: &[u64], start: usize, records: &mut [u32]) -> Answer
     ensures answer { λ r. ⌜ r ≡ shown start (shuffle w64 (now (words .entry)) start (now (records .entry))) ⌝ }
     ensures records { λ r. ⌜ now (records .exit) ≡ left (now (records .entry)) (shuffle w64 (now (words .entry)) start (now (records .entry))) ⌝ }
@@ -59,6 +52,13 @@ pub extern "C" fn hildrasp_sample(
     ensures slots { λ r. ⌜ now (slots .exit) ≡ left (now (slots .entry)) (sample w64 (now (words .entry)) start (now (records .entry)) k (length (now (slots .entry)))) ⌝ }
 {
     draws::sample::sample_records(words, start, records, k, slots)
+}
+
+#[no_mangle]
+pub extern "C" fn hildrasp_words_behind(bounds: &[u64], rolls: &[u64]) -> Behind
+    ensures { λ r. ⌜ r ≡ shownBehind (wordsBehind w64 (now (bounds .entry)) (now (rolls .entry))) ⌝ }
+{
+    rolls::behind::words_behind(bounds, rolls)
 }
 
 #[no_mangle]

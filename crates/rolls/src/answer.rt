@@ -44,6 +44,7 @@ pub fn refused_answer(number: u64, start: usize, batch: usize) -> Answer
     }
 }
 
+// The same, of one batch.
 pub fn refused_batch(number: u64, start: usize) -> Batch
     ensures { λ r. ⌜ r ≡ shownBatch start (refused number 0) ⌝ }
 {
@@ -56,6 +57,7 @@ pub fn refused_batch(number: u64, start: usize) -> Batch
     }
 }
 
+// The same, of the words behind rolls, which takes no start.
 pub fn refused_behind(number: u64) -> Behind
     ensures { λ r. ⌜ r ≡ shownBehind (refused number 0) ⌝ }
 {

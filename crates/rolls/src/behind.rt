@@ -18,7 +18,7 @@ ghost use Rattle.rolls.specs.Operations.{wordsBehind};
 ghost use Rattle.rolls.specs.Inner.{runBehind};
 
 // Whether there is a roll for each bound, each below its bound.
-pub fn in_range(bounds: &[u64], rolls: &[u64]) -> bool
+fn in_range(bounds: &[u64], rolls: &[u64]) -> bool
     ensures { λ r. ⌜ r ≡ inRange (now (bounds .entry)) (now (rolls .entry)) ⌝ }
 {
     if bounds.len() != rolls.len() {
@@ -35,7 +35,7 @@ pub fn in_range(bounds: &[u64], rolls: &[u64]) -> bool
 }
 
 // The rolls read as one mixed-radix number, the first roll most significant.
-pub fn value_of(bounds: &[u64], rolls: &[u64]) -> u64
+fn value_of(bounds: &[u64], rolls: &[u64]) -> u64
     requires { ⌜ (inRange (now bounds) (now rolls) ≡ true) × (product (now bounds) ≤ 2 ^ 64) ⌝ }
     ensures { λ r. ⌜ r ≡ value (now (bounds .entry)) (now (rolls .entry)) ⌝ }
 {
@@ -64,11 +64,12 @@ fn run_below(a: u64, b: u64) -> Behind
     }
 }
 
-// The words behind rolls, the first and the last of their run: these, and no other words, give the rolls for these bounds.
+// The words behind rolls, the first and the last of their run: these, and no other words, give the rolls for these bounds, accepted.
 //
-// Refusals, the lowest that applies: 2 no bound or more than 16, 4 some bound 0, 5 product above 2^64, 7 rolls and bounds differ
-// in count or a roll reaches its bound. At most 64 steps of long division. For bounds 2, 6 and rolls 0, 0: 1 to
-// 1537228672809129301.
+// No word is used; next and rejected are 0. Refusals, the lowest that applies: 2 no bound or more than 16, 4 some bound 0, 5 product
+// above 2^64, 7 rolls and bounds differ in count or a roll reaches its bound. A division or two for each bound, and 64 steps of long
+// division, none for a product of 2^64. For bounds 2, 6 and rolls 0, 0: 1 to 1537228672809129301. While the rules stand the same input
+// has the same answer.
 pub fn words_behind(bounds: &[u64], rolls: &[u64]) -> Behind
     ensures { λ r. ⌜ r ≡ shownBehind (wordsBehind w64 (now (bounds .entry)) (now (rolls .entry))) ⌝ }
 {

@@ -10,9 +10,10 @@ ghost use Rattle.rolls.specs.Inner.{cutAt};
 // The most bounds of one batch.
 pub const MAX_BATCH: usize = 16;
 
-// A further bound joins a batch while their product is at most this.
+// 2^56: a further bound joins a batch while their product is at most this.
 pub const LIMIT: u64 = 72057594037927936;
 
+// Where a batch of the list ends, and its product.
 pub struct Cut {
     pub end: usize,
     pub product: u64,

@@ -1,8 +1,9 @@
 // From words to rolls: one batch, a list of bounds, and the way back from rolls to words. Each public operation (batch, list,
-// behind) answers every input; list, shuffle and sample share the inner functions (search, unfold, cut, supply), which ask what
-// their callers know.
+// behind) answers every input. Batch, list and sample are made of the inner functions (search, unfold, cut, supply), the shuffle of
+// the search; these ask what their callers know.
 //
-// Contracts cite specs/: Run (words taken in list order), Cut, Outcome (refusals, and what a caller sees), Operations.
+// Contracts cite specs/: Run (words taken in list order), Cut, Outcome (refusals, and what a caller sees), Operations, and Inner (what
+// the inner functions answer).
 pub mod answer;
 pub mod batch;
 pub mod behind;

@@ -6,6 +6,7 @@ ghost use lib.ListN.{length, drop};
 ghost use Rattle.rolls.specs.Run.{find};
 ghost use Rattle.rolls.specs.Inner.{passes, searched};
 
+// The word that a batch takes, its place, and how many words before it were rejected; or that the list ended.
 pub enum Search {
     Hit {
         word: u64,

@@ -12,12 +12,13 @@ ghost use Rattle.rolls.specs.Run.{run};
 ghost use Rattle.rolls.specs.Cut.{cut};
 ghost use Rattle.rolls.specs.Inner.{supplied};
 
+// The place after the last word used and how many were rejected; or the batch, from 0, that got no word.
 pub enum Supply {
     Enough { next: usize, rejected: usize },
     Short { batch: usize },
 }
 
-// Takes a word for each batch of the bounds, and keeps only where the last one stood and how many were rejected.
+// Takes a word for each batch of the bounds, and keeps none.
 pub fn supply_list(words: &[u64], start: usize, bounds: &[u64]) -> Supply
     requires { ⌜ (start ≤ length (now words)) × (hasZero (now bounds) ≡ false) ⌝ }
     ensures { λ r. ⌜ r ≡ supplied start (run 64 (cut (2 ^ 56) (now (bounds .entry))) (now (words .entry)) start) ⌝ }

@@ -16,6 +16,19 @@ ghost use Rattle.draws.specs.Operations.{sample};
 ghost use Rattle.sheet.specs.Sheet.{numbers, wordsOf, recordsOf, Sound, isSound};
 ghost use Rattle.sheet.specs.Operations.{runSheet, shownDrawn};
 
+// The places of the six numbers, each of 4 bytes.
+const WORD_COUNT: usize = 0;
+
+const WORDS_AT: usize = 4;
+
+const RECORD_COUNT: usize = 8;
+
+const RECORDS_AT: usize = 12;
+
+const K: usize = 16;
+
+const W: usize = 20;
+
 // The bytes of the six numbers: the least length of a sheet, and the least offset of an area.
 const HEADER: u64 = 24;
 
@@ -63,10 +76,10 @@ pub fn is_sound(sheet: &[u8]) -> bool
     if MAX_SHEET < length {
         return false;
     }
-    let words_at = read_number(sheet, 4) as u64;
-    let words_end = words_at + 8 * read_number(sheet, 0) as u64;
-    let records_at = read_number(sheet, 12) as u64;
-    let records_end = records_at + 4 * read_number(sheet, 8) as u64;
+    let words_at = read_number(sheet, WORDS_AT) as u64;
+    let words_end = words_at + 8 * read_number(sheet, WORD_COUNT) as u64;
+    let records_at = read_number(sheet, RECORDS_AT) as u64;
+    let records_end = records_at + 4 * read_number(sheet, RECORD_COUNT) as u64;
     if words_at < HEADER {
         return false;
     }
@@ -110,12 +123,12 @@ fn done_drawn(sheet: &[u8], answer: Answer) -> Drawn
         next: answer.next,
         rejected: answer.rejected,
         batch: answer.batch,
-        words: read_number(sheet, 0),
-        words_at: read_number(sheet, 4),
-        records: read_number(sheet, 8),
-        records_at: read_number(sheet, 12),
-        k: read_number(sheet, 16),
-        w: read_number(sheet, 20),
+        words: read_number(sheet, WORD_COUNT),
+        words_at: read_number(sheet, WORDS_AT),
+        records: read_number(sheet, RECORD_COUNT),
+        records_at: read_number(sheet, RECORDS_AT),
+        k: read_number(sheet, K),
+        w: read_number(sheet, W),
     }
 }
 
@@ -125,13 +138,18 @@ fn sample_sheet(sheet: &[u8], slots: &mut [u32]) -> Answer
     ensures answer { λ r. ⌜ r ≡ shown 0 (sample w64 (wordsOf (now (sheet .entry))) 0 (recordsOf (now (sheet .entry))) (numbers (now (sheet .entry)) .k) (length (now (slots .entry)))) ⌝ }
     ensures slots { λ r. ⌜ now (slots .exit) ≡ left (now (slots .entry)) (sample w64 (wordsOf (now (sheet .entry))) 0 (recordsOf (now (sheet .entry))) (numbers (now (sheet .entry)) .k) (length (now (slots .entry)))) ⌝ }
 {
-    let m = read_number(sheet, 0) as usize;
-    let n = read_number(sheet, 8) as usize;
-    let k = read_number(sheet, 16) as usize;
+    let m = read_number(sheet, WORD_COUNT) as usize;
+    let n = read_number(sheet, RECORD_COUNT) as usize;
+    let k = read_number(sheet, K) as usize;
     let mut words = [0u64; SHEET_WORDS];
-    read_words(sheet, read_number(sheet, 4) as usize, m, &mut words);
+    read_words(sheet, read_number(sheet, WORDS_AT) as usize, m, &mut words);
     let mut records = [0u32; SHEET_RECORDS];
-    read_records(sheet, read_number(sheet, 12) as usize, n, &mut records);
+    read_records(
+        sheet,
+        read_number(sheet, RECORDS_AT) as usize,
+        n,
+        &mut records,
+    );
     sample_records(&words[..m], 0, &records[..n], k, slots)
 }
 
@@ -141,8 +159,9 @@ fn sample_sheet(sheet: &[u8], slots: &mut [u32]) -> Answer
 // records from start 0, and the six numbers come back with it: the first w slots are the early reviews, the others late. Refusals, the
 // lowest that applies: 1 the sheet is not sound, 3 k is 0 or above the count of records or w is above k, 6 fewer than k slots, 10 the
 // words end before some batch has one; the slots are then exactly what they were, and the six numbers are zeros. Each word and each
-// record of the sheet is copied once, and then sampled. The 52 bytes of the header 2, 24, 3, 40, 1, 1, the words 0, 1 and the records
-// 101, 205, 309 give 309: next is 2 and one word is rejected.
+// record of the sheet is copied once, into local arrays, and then sampled. The 52 bytes of the header 2, 24, 3, 40, 1, 1, the words
+// 0, 1 and the records 101, 205, 309 give 309: next is 2 and one word is rejected. While the rules stand the same input has the same
+// answer.
 pub fn run_sheet(sheet: &[u8], slots: &mut [u32]) -> Drawn
     ensures answer { λ r. ⌜ r ≡ shownDrawn (now (sheet .entry)) (runSheet w64 (now (sheet .entry)) (length (now (slots .entry)))) ⌝ }
     ensures slots { λ r. ⌜ now (slots .exit) ≡ left (now (slots .entry)) (runSheet w64 (now (sheet .entry)) (length (now (slots .entry)))) ⌝ }
@@ -150,9 +169,9 @@ pub fn run_sheet(sheet: &[u8], slots: &mut [u32]) -> Drawn
     if !is_sound(sheet) {
         return refused_drawn(refusal::SHEET, 0);
     }
-    let n = read_number(sheet, 8);
-    let k = read_number(sheet, 16);
-    let w = read_number(sheet, 20);
+    let n = read_number(sheet, RECORD_COUNT);
+    let k = read_number(sheet, K);
+    let w = read_number(sheet, W);
     if k < 1 {
         return refused_drawn(refusal::SAMPLE, 0);
     }

@@ -9,18 +9,17 @@ pub mod run;
 pub mod sheet;
 pub mod word;
 
-use crate::raw::{Answer, Batch, Behind, Drawn};
+use crate::raw::{Answer, Batch, Behind, Drawn, Numbers};
 use crate::refusal::Refusal;
 use plan::{cut, MAX_BATCH};
 use run::run;
-use sheet::Numbers;
 use word::{power, product, run_of_words, L};
 
 /// The most bounds in a list.
-pub const MAX_LIST: usize = 4096;
+const MAX_LIST: usize = 4096;
 
 /// The most records.
-pub const MAX_RECORDS: usize = 16_384;
+const MAX_RECORDS: usize = 16_384;
 
 /// What an operation comes to: values for the front of the lent list, or a refusal.
 type Outcome<T> = Result<Done<T>, Refusal>;
@@ -170,8 +169,7 @@ pub fn run_sheet(sheet: &[u8], lent: &mut [u32]) -> Drawn {
     };
     leave(&outcome, lent);
     let Answer { no, next, rejected, batch } = shown(0, &outcome);
-    let Numbers { words, words_at, records, records_at, k, w } = numbers;
-    Drawn { no, next, rejected, batch, words, words_at, records, records_at, k, w }
+    Drawn { no, next, rejected, batch, numbers }
 }
 
 fn drawn(sheet: &[u8], room: usize) -> Result<(Numbers, Done<u32>), Refusal> {

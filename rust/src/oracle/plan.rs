@@ -9,7 +9,7 @@ pub type Plan = Vec<Vec<u64>>;
 pub const MAX_BATCH: usize = 16;
 
 /// The highest product of a batch of two or more bounds that is cut from a list.
-pub const CUT_LIMIT: u128 = 1 << 56;
+const CUT_LIMIT: u128 = 1 << 56;
 
 /// Cuts a list of bounds: a batch takes the next bound whatever it is, and further bounds while they join.
 pub fn cut(bounds: &[u64]) -> Plan {

@@ -3,10 +3,8 @@
 use super::word::{accepted, rolls, L};
 use crate::refusal::Refusal;
 
-/// What one batch took: its accepted word, the word's place in the list, and its rolls.
+/// What one batch took: the place of its accepted word in the list, and its rolls.
 pub struct Taken {
-    /// The accepted word.
-    pub word: u64,
     /// The place of the accepted word.
     pub place: usize,
     /// The rolls of the accepted word.
@@ -42,7 +40,7 @@ pub fn run(plan: &[Vec<u64>], words: &[u64], start: usize) -> Result<Trace, Refu
             trace.next += 1;
             if accepted(L, bounds, word) {
                 let (rolls, _) = rolls(L, bounds, word);
-                trace.batches.push(Taken { word, place, rolls });
+                trace.batches.push(Taken { place, rolls });
                 break;
             }
             trace.rejected += 1;

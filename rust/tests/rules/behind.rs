@@ -36,14 +36,18 @@ fn is_the_run(bounds: &[u64], rolls: &[u64]) {
 #[test]
 fn the_words_behind_rolls_are_one_run_and_no_others() {
     let mut generator = Generator::new(21);
-    for _ in 0..cases(100_000) {
+    let mut allowed = 0;
+    let cases = cases(100_000);
+    for _ in 0..cases {
         let bounds = generator.bounds();
         // Without rolls, allowed bounds are refused 7 and others lower.
         if words_behind(&bounds, &[]).no == 7 {
             let rolls = rolls_below(&mut generator, &bounds);
             is_the_run(&bounds, &rolls);
+            allowed += 1;
         }
     }
+    assert!(allowed > cases / 4, "only {allowed} lists of bounds were allowed");
 }
 
 #[test]
@@ -126,8 +130,8 @@ fn products_close_to_a_limit_have_exact_runs() {
             is_the_run(bounds, &rolls);
         }
     }
-    assert_eq!(words_behind(&[274_177, 67_280_421_310_721], &[0, 0]), behind_refused(5));
     // 2^64 + 1
+    assert_eq!(words_behind(&[274_177, 67_280_421_310_721], &[0, 0]), behind_refused(5));
 }
 
 #[test]

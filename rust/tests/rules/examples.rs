@@ -6,7 +6,7 @@ use crate::support::{
 };
 use crate::{program, sheets};
 use hildrasp::oracle::{plan::cut, word};
-use hildrasp::raw::Drawn;
+use hildrasp::raw::{Drawn, Numbers};
 
 #[test]
 fn at_four_bits_bounds_2_and_6_reject_0_4_8_12() {
@@ -110,8 +110,8 @@ fn a_sample_of_0_from_0_is_refused_3() {
 #[test]
 fn the_sheet_of_52_bytes_draws_record_309() {
     let sheet = sheets::of_52_bytes();
-    let drawn =
-        Drawn { no: 0, next: 2, rejected: 1, batch: 0, words: 2, words_at: 24, records: 3, records_at: 40, k: 1, w: 1 };
+    let numbers = Numbers { words: 2, words_at: 24, records: 3, records_at: 40, k: 1, w: 1 };
+    let drawn = Drawn { no: 0, next: 2, rejected: 1, batch: 0, numbers };
     assert_eq!(sheet.len(), 52);
     assert_eq!(run_sheet(&sheet, 2), (drawn, Lent::holding(2, &[309])));
 }

@@ -1,10 +1,11 @@
 /*
- * A C program over include/hildrasp.h: one call of each function, on an example of document 01, and one refusal with
- * the list that it must leave alone.
+ * A C program over include/hildrasp.h: one call of each function, on an example of document 01; refusals with the lists
+ * that they must leave alone; and empty lists lent as null pointers.
  */
 #include <hildrasp.h>
 #include <stdio.h>
 #include <stdlib.h>
+#include <string.h>
 
 static void holds(int rule, const char *text)
 {
@@ -15,6 +16,37 @@ static void holds(int rule, const char *text)
 }
 
 #define HOLDS(rule) holds(rule, #rule)
+
+/* The answers of each function with each of its lists in turn empty. */
+typedef struct {
+    hildrasp_batch batch[2];
+    hildrasp_answer list[3];
+    hildrasp_behind run[2];
+    hildrasp_answer shuffled[2];
+    hildrasp_answer sampled[3];
+    hildrasp_answer order[2];
+    hildrasp_drawn drawn[2];
+} answers;
+
+static answers with_empty_lists(void *empty, const uint8_t sheet[52])
+{
+    const uint64_t words[2] = {0, 1}, bounds[2] = {2, 6};
+    uint64_t rolls[2] = {0, 0};
+    uint32_t records[3] = {1, 2, 0}, slots[1];
+    return (answers){
+        .batch = {hildrasp_roll_batch(empty, 0, 0, bounds, 2), hildrasp_roll_batch(words, 2, 0, empty, 0)},
+        .list = {hildrasp_roll_list(empty, 0, 0, bounds, 2, rolls, 2),
+                 hildrasp_roll_list(words, 2, 0, empty, 0, rolls, 2),
+                 hildrasp_roll_list(words, 2, 0, bounds, 2, empty, 0)},
+        .run = {hildrasp_words_behind(empty, 0, rolls, 2), hildrasp_words_behind(bounds, 2, empty, 0)},
+        .shuffled = {hildrasp_shuffle(empty, 0, 0, records, 3), hildrasp_shuffle(words, 2, 0, empty, 0)},
+        .sampled = {hildrasp_sample(empty, 0, 0, records, 3, 1, slots, 1),
+                    hildrasp_sample(words, 2, 0, empty, 0, 1, slots, 1),
+                    hildrasp_sample(words, 2, 0, records, 3, 1, empty, 0)},
+        .order = {hildrasp_rolls_behind(empty, 0, rolls, 2), hildrasp_rolls_behind(records, 3, empty, 0)},
+        .drawn = {hildrasp_run_sheet(empty, 0, slots, 1), hildrasp_run_sheet(sheet, 52, empty, 0)},
+    };
+}
 
 int main(void)
 {
@@ -72,6 +104,10 @@ int main(void)
     HOLDS(drawn.k == 1 && drawn.w == 1 && slots[0] == 309 && slots[1] == 9);
     drawn = hildrasp_run_sheet(sheet, 51, slots, 2);
     HOLDS(drawn.no == HILDRASP_SHEET && drawn.words == 0 && drawn.k == 0 && slots[0] == 309);
+
+    uint64_t place = 9;
+    answers lent = with_empty_lists(&place, sheet), null = with_empty_lists(NULL, sheet);
+    HOLDS(memcmp(&lent, &null, sizeof lent) == 0 && place == 9);
 
     return 0;
 }

@@ -7,10 +7,11 @@ use std::collections::BTreeSet;
 /// The library cuts these bounds into batches of these sizes: each batch takes one word and gives the rolls that it
 /// gives alone, and one word less is a refusal at the last batch.
 fn is_cut_as(bounds: &[u64], sizes: &[usize]) {
+    let mut generator = Generator::new(14);
     let mut words = Vec::new();
     let mut rolls = Vec::new();
     for &size in sizes {
-        let candidates: Vec<u64> = (1..40).map(|i| u64::MAX - words.len() as u64 - i).collect();
+        let candidates = [0; 20].map(|_| generator.word());
         let answer = roll_batch(&candidates, 0, &bounds[rolls.len()..][..size]);
         assert_eq!(answer.no, 0, "one of the candidates is accepted");
         words.push(candidates[answer.rejected]);

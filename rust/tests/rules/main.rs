@@ -1,5 +1,7 @@
-//! The rules of document 01, held against the proved library: each file has the rules of one operation, and each
-//! test is named by the rule that it holds. Whole answers and whole lent lists are compared.
+//! The rules of document 01, held against the proved library: a file for each operation, and one each for the program,
+//! the checked examples, the Rust and C faces, the paper's own shuffle, and the way from an order to words and back;
+//! `sheets` and `support` have what they share. A test is named by the rule that it holds. Whole answers and whole lent
+//! lists are compared.
 //!
 //! `HILDRASP_CASES=20 cargo test --release` runs twenty times the random cases of a default run.
 

@@ -14,9 +14,9 @@ fn program() -> Command {
     built_program(&Path::new(env!("CARGO_MANIFEST_DIR")).join("../target/bin/draw_sheet"))
 }
 
-/// The standard output of a run that came to its own end.
+/// The standard output of a run, which ends with success, refused or not.
 fn text(output: Output) -> String {
-    assert!(output.status.code().is_some(), "the program was stopped: {}", output.status);
+    assert!(output.status.success(), "the program ended with {}", output.status);
     String::from_utf8(output.stdout).expect("the program prints text")
 }
 

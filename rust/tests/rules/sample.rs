@@ -80,8 +80,11 @@ fn a_lent_list_that_is_too_short_is_refused_6() {
 
 #[test]
 fn equal_records_are_records_like_others() {
-    let words = [1, 1, 1];
-    assert_eq!(sample(&words, 0, &[7; 10], 2, 2).1, Lent::holding(2, &[7, 7]));
+    // The bounds are 3, 4, 5, 6, and t = 2^64 mod 360 = 16. Word 2^61 + 1 gives roll 0 with r = 3 * 2^61 + 3, roll 1
+    // with r = 2^63 + 12, roll 2 with r = 2^63 + 60, roll 3 with r = 360; word 2^61 ends with r = 0, and is rejected.
+    // Slot 0 gets the 8 of place 2 and slot 1 the 8 of place 3; the rolls 2 and 3 are not below k.
+    let words = [1 << 61, (1 << 61) + 1];
+    assert_eq!(sample(&words, 0, &[7, 7, 8, 8, 9, 9], 2, 2), (done(2, 1), Lent::holding(2, &[8, 8])));
 }
 
 #[test]

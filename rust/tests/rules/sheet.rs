@@ -2,7 +2,8 @@
 
 use crate::sheets::{self, change_number, laid_out, written};
 use crate::support::{cases, choices, in_place, run_sheet, sample, sheet_refused, Generator, Lent};
-use hildrasp::oracle::{plan, sheet::Numbers};
+use hildrasp::oracle::{plan, run::run};
+use hildrasp::Numbers;
 use std::collections::BTreeSet;
 
 /// The number that the library gives for a sheet, with room enough.
@@ -154,8 +155,7 @@ fn the_six_numbers_come_back_with_the_draw() {
     let sheet = laid_out(&[7, 8, 9], &[1, 2, 3, 4, 5], 4, 3, [2, 3, 4], false);
     let (drawn, _) = run_sheet(&sheet, 4);
     assert_eq!(drawn.no, 0);
-    assert_eq!((drawn.words, drawn.words_at, drawn.records, drawn.records_at), (3, 26, 5, 53));
-    assert_eq!((drawn.k, drawn.w), (4, 3));
+    assert_eq!(drawn.numbers, Numbers { words: 3, words_at: 26, records: 5, records_at: 53, k: 4, w: 3 });
 }
 
 #[test]
@@ -166,15 +166,18 @@ fn the_longest_sheets_are_drawn_from() {
     let sheet = laid_out(&[], &records, 16_377, 16_377, [0, 0, 3], false);
     assert_eq!(sheet.len(), 65_535);
     let (drawn, slots) = run_sheet(&sheet, 16_377);
-    assert_eq!((drawn.no, drawn.next, drawn.k), (0, 0, 16_377));
+    assert_eq!((drawn.no, drawn.next, drawn.numbers.k), (0, 0, 16_377));
     assert_eq!(slots, Lent::holding(16_377, &records));
-    // The most words that fit beside one record, and one record of many.
+    // The most words that fit beside one record.
     assert_eq!(number_for(&laid_out(&[3; 8188], &[5], 1, 0, [0, 0, 3], true)), 0);
+    // Some records of many, with the words that they need, and then without the last of them.
     for n in [8000, 10_000] {
-        let words = generator.words_for_plan(&plan::sample(n, 64));
-        let room_for_words = (65_535 - 24 - 4 * n) / 8;
-        let sheet = laid_out(&words[..words.len().min(room_for_words)], &generator.records(n), 64, 9, [0; 3], true);
-        assert_eq!(number_for(&sheet), if words.len() <= room_for_words { 0 } else { 10 });
+        let plan = plan::sample(n, 64);
+        let words = generator.words_for_plan(&plan);
+        let records = generator.records(n);
+        let sheet = |words| laid_out(words, &records, 64, 9, [0; 3], true);
+        assert_eq!(number_for(&sheet(&words)), 0);
+        assert_eq!(run_sheet(&sheet(&words[..words.len() - 1]), 64).0, sheet_refused(10, plan.len() - 1));
     }
 }
 
@@ -218,14 +221,12 @@ fn words_that_run_out_at_any_batch_leave_the_slots_as_they_were() {
     let records = generator.records(100);
     let plan = plan::sample(100, 2);
     let words = generator.words_for_plan(&plan);
-    let mut batches = BTreeSet::new();
+    let trace = run(&plan, &words, 0).unwrap_or_else(|refusal| panic!("words made for the plan: {refusal}"));
     for length in 0..words.len() {
+        let batch = trace.batches.iter().filter(|taken| taken.place < length).count();
         let sheet = laid_out(&words[..length], &records, 2, 1, [0; 3], false);
-        let (drawn, slots) = run_sheet(&sheet, 5);
-        assert_eq!((drawn, slots), (sheet_refused(10, drawn.batch), Lent::with_room(5)));
-        batches.insert(drawn.batch);
+        assert_eq!(run_sheet(&sheet, 5), (sheet_refused(10, batch), Lent::with_room(5)));
     }
-    assert_eq!(batches, (0..plan.len()).collect());
     assert_eq!(number_for(&laid_out(&words, &records, 2, 1, [0; 3], false)), 0);
 }
 
@@ -303,7 +304,7 @@ fn random_sheets_are_answered_as_by_the_oracle() {
     let mut generator = Generator::new(85);
     let mut numbers = BTreeSet::new();
     let mut rejected = 0;
-    let cases = cases(20_000);
+    let cases = cases(100_000);
     for _ in 0..cases {
         let sheet = if generator.once_in(3) { sheets::sound(&mut generator) } else { sheets::damaged(&mut generator) };
         let k = u32::from_le_bytes([16, 17, 18, 19].map(|place| sheet.get(place).copied().unwrap_or(0)));

@@ -1,7 +1,8 @@
 //! Making sheets: laid out soundly, or written from any six numbers; at random, sound and damaged.
 
 use crate::support::Generator;
-use hildrasp::oracle::{plan, sheet::Numbers};
+use hildrasp::oracle::plan;
+use hildrasp::Numbers;
 
 /// What the gaps of a sheet are filled with.
 const GAP: u8 = 0xee;

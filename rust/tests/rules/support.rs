@@ -2,7 +2,7 @@
 //! comparison of the library's whole answer with the oracle's.
 
 use hildrasp::oracle::{self, plan::Plan, word};
-use hildrasp::raw::{self, Answer, Batch, Behind, Drawn};
+use hildrasp::raw::{self, Answer, Batch, Behind, Drawn, Numbers};
 use std::env;
 use std::fmt::{self, Debug};
 use std::path::Path;
@@ -352,5 +352,5 @@ pub fn behind_refused(no: u64) -> Behind {
 
 /// A sheet that was refused.
 pub fn sheet_refused(no: u64, batch: usize) -> Drawn {
-    Drawn { no, next: 0, rejected: 0, batch, words: 0, words_at: 0, records: 0, records_at: 0, k: 0, w: 0 }
+    Drawn { no, next: 0, rejected: 0, batch, numbers: Numbers::default() }
 }
