@@ -1,11 +1,21 @@
 -- A draw sheet, refusal by refusal. Assumes nothing.
 --
---   area-count, area-of, area-sampled         the entries of an area in the front of an array, and their sample
---   sheet-unsound, sheet-size, sheet-sample   the refusals 1 and 3, and then the sample
---   no-slot, too-many, too-early, in-size     k and w out of range, or in it
---   refused-drawn, drawn-refused, drawn-done  what the caller sees
---   done-batch                                an answer that refuses nothing names no batch
---   drawn-room                                the k that comes back is within the room
+--   area-count     an area that was read to the front of an array has as many entries there as its count
+--   area-of        the entries at the front of the array are the area's
+--   area-sampled   the sample of the areas as they were read is that of the sheet
+--   no-slot        number 3 applies where k is 0
+--   too-many       number 3 applies where k is above the count of records
+--   too-early      number 3 applies where w is above k
+--   in-size        number 3 does not apply elsewhere
+--   sheet-unsound  a sheet that is not sound is refused by 1
+--   sheet-size     a sound sheet to which number 3 applies is refused by 3
+--   sheet-sample   the draw of any other sheet is the sample of its records
+--   refused-drawn  what the caller sees of a refusal
+--   NoneIsZero     an outcome is no refusal with number 0
+--   done-batch     an answer that refuses nothing names no batch
+--   drawn-refused  what the caller sees of a sample that was refused
+--   drawn-done     what the caller sees of a sample that was done
+--   drawn-room     the k that comes back is within the room
 use mathlib.Core.Path.{_≡_, refl, sym, ap, ap₂, _∙_}
 use mathlib.Core.Bool.{Bool, true, false, not, _||_, or-true}
 use mathlib.Core.List.{List, [], _∷_, _++_}
@@ -22,7 +32,7 @@ use Rattle.rolls.specs.Outcome.{Outcome, refused, done, Refusal, no, noWord, de
 use Rattle.rolls.specs.declared.answer.Answer.{Answer}
 use Rattle.rolls.proofs.Deciding.{decide-here, decide-past, decide-under, in-count, below-count, above-count}
 use Rattle.draws.specs.Operations.{samplePlan, sampled, sample}
-use Rattle.sheet.specs.Sheet.{numbers, entries, wordsOf, recordsOf, isSound}
+use Rattle.sheet.specs.Sheet.{Numbers, numbers, entries, wordsOf, recordsOf, isSound}
 use Rattle.sheet.specs.Operations.{runSheet, shownDrawn}
 use Rattle.sheet.specs.declared.run.Drawn.{Drawn}
 use Rattle.sheet.proofs.Soundness.{sound-known, entries-length, sheet-records, sheet-room}
@@ -49,21 +59,25 @@ area-sampled s room before out a ws xs k e f g v =
 
 -- ---- k and w
 
-module _ (n k w : ℕ) where
-  abbrev pub misfit : Bool
-  misfit = outside 1 n k || ltb k w
+module _ (s : List ℕ) where
+  abbrev h : Numbers
+  h = numbers s
 
-  pub no-slot : k < 1 → misfit ≡ true
-  no-slot h = ap (λ (b : Bool). b || ltb k w) (below-count 1 n k h)
+  -- number 3 applies: k is 0 or above the count of records, or w is above k
+  abbrev wrongSize : Bool
+  wrongSize = outside 1 (h .records) (h .k) || ltb (h .k) (h .w)
 
-  pub too-many : n < k → misfit ≡ true
-  too-many h = ap (λ (b : Bool). b || ltb k w) (above-count 1 n k h)
+  pub no-slot : h .k < 1 → wrongSize ≡ true
+  no-slot l = ap (λ (b : Bool). b || ltb (h .k) (h .w)) (below-count 1 (h .records) (h .k) l)
 
-  pub too-early : k < w → misfit ≡ true
-  too-early h = ap (λ (b : Bool). outside 1 n k || b) (lt-ltb k w h) ∙ or-true (outside 1 n k)
+  pub too-many : h .records < h .k → wrongSize ≡ true
+  too-many l = ap (λ (b : Bool). b || ltb (h .k) (h .w)) (above-count 1 (h .records) (h .k) l)
 
-  pub in-size : 1 ≤ k → k ≤ n → w ≤ k → misfit ≡ false
-  in-size h i j = ap₂ _||_ (in-count 1 n k h i) (le-ltb k w j)
+  pub too-early : h .k < h .w → wrongSize ≡ true
+  too-early l = ap (λ (b : Bool). outside 1 (h .records) (h .k) || b) (lt-ltb (h .k) (h .w) l) ∙ or-true (outside 1 (h .records) (h .k))
+
+  pub in-size : 1 ≤ h .k → h .k ≤ h .records → h .w ≤ h .k → wrongSize ≡ false
+  in-size i j l = ap₂ _||_ (in-count 1 (h .records) (h .k) i j) (le-ltb (h .k) (h .w) l)
 
 -- ---- the refusals
 
@@ -84,18 +98,18 @@ module _ (s : List ℕ) (room : ℕ) where
   sheet-unsound e = decide-here (no 1 (not (isSound s))) _ _ (ap not e)
 
   module _ (sound : isSound s ≡ true) where
-    pub sheet-size : misfit (numbers s .records) (numbers s .k) (numbers s .w) ≡ true → runSheet w64 s room ≡ refused 3 0
+    pub sheet-size : wrongSize s ≡ true → runSheet w64 s room ≡ refused 3 0
     unfolding runSheet
-    sheet-size e = decide-past (no 1 (not (isSound s))) _ _ (ap not sound) ∙ decide-here (no 3 (misfit (numbers s .records) (numbers s .k) (numbers s .w))) _ _ e
+    sheet-size e = decide-past (no 1 (not (isSound s))) _ _ (ap not sound) ∙ decide-here (no 3 (wrongSize s)) _ _ e
 
-    pub sheet-sample : misfit (numbers s .records) (numbers s .k) (numbers s .w) ≡ false
+    pub sheet-sample : wrongSize s ≡ false
         → runSheet w64 s room ≡ sample w64 (wordsOf s) 0 (recordsOf s) (numbers s .k) room
     unfolding runSheet
     sheet-sample e =
         let n : length (recordsOf s) ≡ numbers s .records = entries-length 4 (numbers s .records) (numbers s .recordsAt) s in
         let o : Outcome = sampled w64 (wordsOf s) 0 (recordsOf s) (numbers s .k) in
         decide-past (no 1 (not (isSound s))) _ _ (ap not sound)
-        ∙ decide-past (no 3 (misfit (numbers s .records) (numbers s .k) (numbers s .w))) _ _ e
+        ∙ decide-past (no 3 (wrongSize s)) _ _ e
         ∙ ap (λ (m : ℕ). decide (six-or-ten (wordsOf s) (numbers s .k) room m) o) (sym n)
         ∙ sym (sample-met (wordsOf s) (recordsOf s) (numbers s .k) room
         (omega (arith, sheet-records s (sound-known s sound))) (rw n (or-left _ _ e)))
@@ -106,7 +120,7 @@ pub refused-drawn : (s : List ℕ) (o : Outcome) (n batch : ℕ) (before : List 
     → (d ≡ shownDrawn s o) × (before ≡ left before o)
 refused-drawn s o n batch before d e f = (f ∙ ap (shownDrawn s) (sym e), ap (left before) (sym e))
 
--- of an outcome p, which is o, of which the answer a is shown; p is no refusal of number 0
+-- p is no refusal with number 0
 abbrev pub NoneIsZero : Outcome → Type 0
 NoneIsZero p = (n batch : ℕ) → p ≡ refused n batch → n ≡ 0 → ⊥
 
@@ -114,6 +128,7 @@ pub done-batch : (p : Outcome) (a : Answer) (o : Outcome) → NoneIsZero p → p
 done-batch p a (refused n batch) never e f h = absurd (never n batch e (sym (ap (λ (b : Answer). b .no) f) ∙ h))
 done-batch p a (done values to more) never e f h = ap (λ (b : Answer). b .batch) f
 
+-- the outcome p, which is o, of which the answer a is shown
 module _ (s : List ℕ) (p : Outcome) (before out : List ℕ) (a : Answer) (d : Drawn) where
   pub drawn-refused : (o : Outcome) → p ≡ o → (a ≡ shown 0 o) × (out ≡ left before o) → (a .no ≡ 0 → ⊥) → d ≡ shownDrawn [] (refused (a .no) (a .batch))
       → (d ≡ shownDrawn s p) × (out ≡ left before p)

@@ -1,4 +1,4 @@
--- `draw_sheet::main` is safe and ends: the k that comes back is within the slots that were lent. Assumes nothing.
+-- `draw_sheet::main` is safe and ends. It turns on one law: the k that comes back is within the slots that were lent. Assumes nothing.
 use mathlib.Core.Path.{sym}
 use Prim.Native.Nat.{_≤_}
 use lib.ListN.{length}

@@ -1,9 +1,15 @@
--- `draw_sheet::print_draw` is safe and ends: the line is within the array that it was written to. Assumes nothing.
+-- `draw_sheet::print_draw` is safe and ends. It turns on the line, which is within the array that it was written to. Assumes nothing.
+use mathlib.Core.List.{List}
+use Prim.Native.Nat.{ℕ}
 use Rattle.sheet.specs.Text.{drawLine}
 use Rattle.sheet.proofs.Spelling.{line-within, line-count}
 use borrow.Author.Needs.{needs}
 use Rattle.draw_sheet.proofs.print_draw.Statement.{statement}
 use Rattle.draw_sheet.proofs.print_draw.Tie as tie
+
+-- the line that was written
+abbrev text : tie.After-draw-line → List ℕ
+text b = let d = b .before .before .before .before .args .drawn in drawLine (d .records) (d .k) (d .next) (d .rejected)
 
 cast-draw-line : tie.Need-cast-draw-line
 cast-draw-line c = search needs
@@ -18,16 +24,10 @@ draw-line-requires : tie.Need-draw-line-requires
 draw-line-requires c κs = search needs
 
 array-share-prefix-line : tie.Need-array-share-prefix-line
-array-share-prefix-line c =
-    let b = c .before in
-    let a = b .before .before .before .before .args in
-    line-within _ (drawLine (a .drawn .records) (a .drawn .k) (a .drawn .next) (a .drawn .rejected)) _ _ (b .draw-line .ensures .0) (b .draw-line .ensures .1)
+array-share-prefix-line c = line-within (text (c .before)) _ (c .before .draw-line .ensures)
 
 slice-aggregate-write-all : tie.Need-slice-aggregate-write-all
-slice-aggregate-write-all c =
-    let b = c .before .before in
-    let a = b .before .before .before .before .args in
-    line-count _ (drawLine (a .drawn .records) (a .drawn .k) (a .drawn .next) (a .drawn .rejected)) _ _ (b .draw-line .ensures .0) (b .draw-line .ensures .1)
+slice-aggregate-write-all c = line-count (text (c .before .before)) _ (c .before .before .draw-line .ensures)
 
 write-all-requires : tie.Need-write-all-requires
 write-all-requires c κs = search needs

@@ -1,9 +1,15 @@
--- `draw_sheet::print_slot` is safe and ends: the line is within the array that it was written to. Assumes nothing.
+-- `draw_sheet::print_slot` is safe and ends. It turns on the line, which is within the array that it was written to. Assumes nothing.
+use mathlib.Core.List.{List}
+use Prim.Native.Nat.{ℕ}
 use Rattle.sheet.specs.Text.{slotLine}
 use Rattle.sheet.proofs.Spelling.{line-within, line-count}
 use borrow.Author.Needs.{needs}
 use Rattle.draw_sheet.proofs.print_slot.Statement.{statement}
 use Rattle.draw_sheet.proofs.print_slot.Tie as tie
+
+-- the line that was written
+abbrev text : tie.After-slot-line → List ℕ
+text b = let a = b .before .before .args in slotLine (a .w) (a .slot) (a .«record»)
 
 slice-aggregate-slot-line : tie.Need-slice-aggregate-slot-line
 slice-aggregate-slot-line c = search needs
@@ -12,16 +18,10 @@ slot-line-requires : tie.Need-slot-line-requires
 slot-line-requires c κs = search needs
 
 array-share-prefix-line : tie.Need-array-share-prefix-line
-array-share-prefix-line c =
-    let b = c .before in
-    let a = b .before .before .args in
-    line-within _ (slotLine (a .w) (a .slot) (a .«record»)) _ _ (b .slot-line .ensures .0) (b .slot-line .ensures .1)
+array-share-prefix-line c = line-within (text (c .before)) _ (c .before .slot-line .ensures)
 
 slice-aggregate-write-all : tie.Need-slice-aggregate-write-all
-slice-aggregate-write-all c =
-    let b = c .before .before in
-    let a = b .before .before .args in
-    line-count _ (slotLine (a .w) (a .slot) (a .«record»)) _ _ (b .slot-line .ensures .0) (b .slot-line .ensures .1)
+slice-aggregate-write-all c = line-count (text (c .before .before)) _ (c .before .before .slot-line .ensures)
 
 write-all-requires : tie.Need-write-all-requires
 write-all-requires c κs = search needs

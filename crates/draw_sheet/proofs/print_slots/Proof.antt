@@ -1,10 +1,12 @@
--- `draw_sheet::print_slots` is safe and ends. The measure is what is left of the slots. Assumes nothing.
+-- `draw_sheet::print_slots` is safe and ends. The loop's invariant: i is at most the count of slots. The measure is what is left of the
+-- slots. Assumes nothing.
 use Prim.Native.Nat.{_-_, _≤_}
 use lib.ListN.{length}
 use borrow.Author.Needs.{needs}
 use Rattle.draw_sheet.proofs.print_slots.Statement.{statement}
 use Rattle.draw_sheet.proofs.print_slots.Tie as tie
 
+-- i is at most the count of slots
 abbrev Inv-loop : tie.InvT-loop
 Inv-loop slots w i₀ i = i ≤ length slots
 

@@ -1,4 +1,4 @@
--- `sheet::run::done_drawn` meets its contract: field by field, the numbers as they were read. Assumes nothing.
+-- `sheet::run::done_drawn` meets its contract. Field by field, the numbers are as they were read. Assumes nothing.
 use borrow.Author.Needs.{needs}
 use Rattle.sheet.proofs.run.done_drawn.Statement.{statement}
 use Rattle.sheet.proofs.run.done_drawn.Tie as tie

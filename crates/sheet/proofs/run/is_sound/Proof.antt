@@ -1,12 +1,17 @@
 -- `sheet::run::is_sound` meets its contract. Each test that fails contradicts the sentence that says what is sound; where all pass, what
 -- is left is that the areas share no byte. Assumes nothing.
 use mathlib.Core.Path.{sym}
-use Prim.Native.Nat.{_+_, _*_}
+use mathlib.Core.List.{List}
+use Prim.Native.Nat.{ℕ, _+_, _*_}
 use native.Mathlib.Omega.{arith}
 use Rattle.sheet.proofs.Soundness.{sound-false, sound-rest}
 use borrow.Author.Needs.{needs}
 use Rattle.sheet.proofs.run.is_sound.Statement.{statement}
 use Rattle.sheet.proofs.run.is_sound.Tie as tie
+
+-- the sheet, from after its numbers were read
+abbrev sheet : tie.After-read-number4 → List ℕ
+sheet d = d .before .before .before .before .before .before .before .args .sheet .now
 
 returns : tie.Need-returns
 returns c = sym (sound-false (c .before .before .args .sheet .now) (λ v. omega arith))
@@ -51,16 +56,16 @@ add-records-end : tie.Need-add-records-end
 add-records-end c = search needs
 
 returns-3 : tie.Need-returns-3
-returns-3 c = sym (sound-false (c .before .before .before .before .before .before .before .before .args .sheet .now) (λ v. omega arith))
+returns-3 c = sym (sound-false (sheet (c .before)) (λ v. omega arith))
 
 returns-4 : tie.Need-returns-4
-returns-4 c = sym (sound-false (c .before .before .before .before .before .before .before .before .before .args .sheet .now) (λ v. omega arith))
+returns-4 c = sym (sound-false (sheet (c .before .before)) (λ v. omega arith))
 
 returns-5 : tie.Need-returns-5
-returns-5 c = sym (sound-false (c .before .before .before .before .before .before .before .before .before .before .args .sheet .now) (λ v. omega arith))
+returns-5 c = sym (sound-false (sheet (c .before .before .before)) (λ v. omega arith))
 
 returns-6 : tie.Need-returns-6
-returns-6 c = sym (sound-false (c .before .before .before .before .before .before .before .before .before .before .before .args .sheet .now) (λ v. omega arith))
+returns-6 c = sym (sound-false (sheet (c .before .before .before .before)) (λ v. omega arith))
 
 share-byte-requires : tie.Need-share-byte-requires
 share-byte-requires c κs = search needs
@@ -70,7 +75,7 @@ returns-7 c =
     let d = c .before .before .before .before .before in
     let at = d .before .before .before .read-number .result in
     let from = d .before .read-number3 .result in
-    sound-rest (c .before .before .before .before .before .before .before .before .before .before .before .before .args .sheet .now) at (at + 8 * d .before .before .read-number2 .result) from (from + 4 * d .read-number4 .result) _ (c .share-byte .ensures)
+    sound-rest (sheet d) at (at + 8 * d .before .before .read-number2 .result) from (from + 4 * d .read-number4 .result) _ (c .share-byte .ensures)
     (search needs) (search needs) (search needs) (search needs) (search needs)
 
 pub is-sound-spec : {M : Type 1} → statement M

@@ -1,5 +1,5 @@
--- `sheet::run::run_sheet` meets its contract, refusal by refusal. The sample's answer is the draw's, since no refusal has number 0.
--- Assumes nothing.
+-- `sheet::run::run_sheet` meets its contract. It goes refusal by refusal; the sample's answer is the draw's, since no refusal has
+-- number 0. Assumes nothing.
 use mathlib.Core.Path.{_≡_, _∙_, sym}
 use mathlib.Core.Bool.{true}
 use native.Mathlib.Omega.{arith}
@@ -36,8 +36,9 @@ outcome s = runSheet w64 (s .args .sheet .now) (length (s .args .slots .now))
 fits : (e : tie.Else4) → let s = begin (past e) .args .sheet .now in
     outcome (begin (past e)) ≡ sample w64 (wordsOf s) 0 (recordsOf s) (numbers s .k) (length (begin (past e) .args .slots .now))
 fits e = let s = begin (past e) .args .sheet .now in
-    sheet-sample s _ (sound (past e)) (in-size (numbers s .records) (numbers s .k) (numbers s .w) (omega arith) (omega arith) (omega arith))
+    sheet-sample s _ (sound (past e)) (in-size s (omega arith) (omega arith) (omega arith))
 
+-- no refusal of the sheet has number 0
 never : (s : tie.Start) → NoneIsZero (outcome s)
 never s n batch e = four-only n (sheet-refusal w64 (s .args .sheet .now) (length (s .args .slots .now)) n batch e) .0
 
@@ -70,7 +71,7 @@ returns-2 c =
     let e = c .before .before .before .before .before in
     let s = begin e .args .sheet .now in
     refused-drawn s (outcome (begin e)) 3 0 _ _
-    (sheet-size s _ (sound e) (no-slot (numbers s .records) (numbers s .k) (numbers s .w) (omega arith))) (c .refused-drawn2 .ensures)
+    (sheet-size s _ (sound e) (no-slot s (omega arith))) (c .refused-drawn2 .ensures)
 
 refused-drawn-requires-3 : tie.Need-refused-drawn-requires-3
 refused-drawn-requires-3 c κs = search needs
@@ -80,7 +81,7 @@ returns-3 c =
     let e = c .before .before .before .before .before .before in
     let s = begin e .args .sheet .now in
     refused-drawn s (outcome (begin e)) 3 0 _ _
-    (sheet-size s _ (sound e) (too-many (numbers s .records) (numbers s .k) (numbers s .w) (omega arith))) (c .refused-drawn3 .ensures)
+    (sheet-size s _ (sound e) (too-many s (omega arith))) (c .refused-drawn3 .ensures)
 
 refused-drawn-requires-4 : tie.Need-refused-drawn-requires-4
 refused-drawn-requires-4 c κs = search needs
@@ -90,7 +91,7 @@ returns-4 c =
     let e = c .before .before .before .before .before .before .before in
     let s = begin e .args .sheet .now in
     refused-drawn s (outcome (begin e)) 3 0 _ _
-    (sheet-size s _ (sound e) (too-early (numbers s .records) (numbers s .k) (numbers s .w) (omega arith))) (c .refused-drawn4 .ensures)
+    (sheet-size s _ (sound e) (too-early s (omega arith))) (c .refused-drawn4 .ensures)
 
 sample-sheet-requires : tie.Need-sample-sheet-requires
 sample-sheet-requires c κs = known (c .before .before .before .before .before .before .before)

@@ -1,4 +1,4 @@
--- `sheet::run::share_byte` meets its contract: each `if` takes the larger start, or the smaller end. Assumes nothing.
+-- `sheet::run::share_byte` meets its contract. Each `if` takes the larger start, or the smaller end. Assumes nothing.
 use mathlib.Core.Path.{_≡_, ap₂}
 use mathlib.Core.Logic.{⊎-elim}
 use Prim.Native.Nat.{min, max}

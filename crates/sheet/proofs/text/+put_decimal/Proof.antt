@@ -1,8 +1,8 @@
--- `sheet::text::put_decimal` meets its contract, by recursion as the definition has it: the digits of n / 10, and then the last one. The
+-- `sheet::text::put_decimal` meets its contract. It recurses as the definition does: the digits of n / 10, and then the last one. The
 -- measure is n. Assumes nothing.
 use Prim.Native.Nat.{ℕ, _<_}
 use native.Mathlib.Omega.{arith}
-use Rattle.sheet.proofs.Spelling.{one-room, spelled-one, longer, spelled-more}
+use Rattle.sheet.proofs.Spelling.{spelled-room, spelled-one, decimal-longer, spelled-more}
 use borrow.Author.Needs.{needs}
 use borrow.Fn.Kinds.{In}
 use borrow.Fn.PlainCycle.{Measures, is, falls, and}
@@ -41,7 +41,7 @@ put-decimal-slice-write-out : (t : ℕ) → put-decimal-lts.Need-slice-write-out
 ) (put-decimal-at t) put-decimal.Post
 put-decimal-slice-write-out t c =
     let s = c .before .before in
-    one-room (s .args .n) (s .args .out .now) (s .args .at) (s .pre .1) (c .if1 .taken)
+    spelled-room (s .args .n) (s .args .out .now) (s .args .at) (s .pre .1) (c .if1 .taken)
 
 put-decimal-add-result : (t : ℕ) → put-decimal-lts.Need-add-result (
   put-decimal-below t,
@@ -69,7 +69,7 @@ put-decimal-put-decimal-requires : (t : ℕ) → put-decimal-lts.Need-put-decima
 ) (put-decimal-at t) put-decimal.Post
 put-decimal-put-decimal-requires t c κs =
     let s = c .before .before .before in
-    let e = longer (s .args .n) (s .args .out .now) (s .args .at) (s .pre .1) (c .before .if1 .left) in
+    let e = decimal-longer (s .args .n) (c .before .if1 .left) in
     (omega arith, omega arith)
 
 put-decimal-cast-out-2 : (t : ℕ) → put-decimal-lts.Need-cast-out-2 (
@@ -90,7 +90,7 @@ put-decimal-slice-write-out-2 : (t : ℕ) → put-decimal-lts.Need-slice-write-o
 ) (put-decimal-at t) put-decimal.Post
 put-decimal-slice-write-out-2 t c =
     let s = c .before .before .before .before .before .before in
-    let e = longer (s .args .n) (s .args .out .now) (s .args .at) (s .pre .1) (c .before .before .before .before .if1 .left) in
+    let e = decimal-longer (s .args .n) (c .before .before .before .before .if1 .left) in
     omega arith
 
 put-decimal-add-result-2 : (t : ℕ) → put-decimal-lts.Need-add-result-2 (
@@ -99,7 +99,7 @@ put-decimal-add-result-2 : (t : ℕ) → put-decimal-lts.Need-add-result-2 (
 ) (put-decimal-at t) put-decimal.Post
 put-decimal-add-result-2 t c =
     let s = c .before .before .before .before .before .before in
-    let e = longer (s .args .n) (s .args .out .now) (s .args .at) (s .pre .1) (c .before .before .before .before .if1 .left) in
+    let e = decimal-longer (s .args .n) (c .before .before .before .before .if1 .left) in
     omega arith
 
 put-decimal-same-length-2 : (t : ℕ) → put-decimal-lts.Need-same-length-2 (

@@ -1,20 +1,25 @@
 -- `sheet::text::put_text` meets its contract. The loop's invariant: the first i bytes of the text stand from the place on, and all else
 -- is as it was. The measure is what is left of the text. Assumes nothing.
-use Prim.Native.Nat.{_-_}
-use lib.ListN.{length}
+use mathlib.Core.Path.{_≡_, refl, ap, _∙_}
+use mathlib.Core.List.{List}
+use Prim.Native.Nat.{ℕ, _+_, _-_, _≤_}
+use native.Mathlib.Numerals.{add-one}
+use lib.ListN.{length, set, getD, length-set}
+use lib.Seq.{paste, paste-zero, paste-suc}
 use borrow.Author.Needs.{needs}
-use Rattle.sheet.proofs.Spelling.{Copied, copied-none, copied-turn, copied-done}
+use Rattle.sheet.proofs.Spelling.{pasted}
 use Rattle.sheet.proofs.text.put_text.Statement.{statement}
 use Rattle.sheet.proofs.text.put_text.Tie as tie
 
+-- the list is as it was, with the first i bytes of the text pasted at the place
 abbrev Inv-loop : tie.InvT-loop
-Inv-loop text out₀ at i₀ out i = Copied text out₀ at out i
+Inv-loop text out₀ at i₀ out i = (i ≤ length text) × (length out ≡ length out₀) × (out ≡ paste out₀ at text i)
 
 abbrev μ-loop : tie.MeasureT-loop
 μ-loop text out₀ at i₀ out i = length text - i
 
 loop-holds : tie.Need-loop-holds Inv-loop μ-loop
-loop-holds c = copied-none (c .args .text .now) (c .args .out .now) (c .args .at) (c .pre)
+loop-holds c = (search needs, refl, paste-zero (c .args .out .now) (c .args .at) (c .args .text .now))
 
 shared-slice-read-out : tie.Need-shared-slice-read-out Inv-loop μ-loop
 shared-slice-read-out c = search needs
@@ -34,8 +39,14 @@ loop-less c = search needs
 loop-again : tie.Need-loop-again Inv-loop μ-loop
 loop-again c =
     let b = c .before .before in
-    let s = b .before in
-    copied-turn (s .args .text .now) (s .args .out .now) (s .args .at) (s .pre) _ _ (b .loop .inv) (search needs)
+    let a = b .before .args in
+    let i = b .loop .i in
+    let byte : ℕ = getD (a .text .now) i 0 in (
+      search needs,
+      length-set (b .loop .out) (a .at + i) byte ∙ b .loop .inv .1,
+      ap (λ (l : List ℕ). set l (a .at + i) byte) (b .loop .inv .2)
+          ∙ rw (add-one i) (paste-suc (a .out .now) (a .at) (a .text .now) i 0 (search needs) (search needs)),
+    )
 
 add-result : tie.Need-add-result Inv-loop μ-loop
 add-result c = search needs
@@ -46,8 +57,8 @@ same-length c = search needs
 returns : tie.Need-returns Inv-loop μ-loop
 returns c =
     let b = c .before in
-    let s = b .before in
-    copied-done (s .args .text .now) (s .args .out .now) (s .args .at) (s .pre) _ _ (b .loop .inv) (search needs)
+    let a = b .before .args in
+    (search needs, b .loop .inv .2 ∙ pasted (a .out .now) (a .text .now) (a .at) (b .loop .i) (search needs))
 
 pub put-text-spec : {M : Type 1} → statement M
 put-text-spec =
