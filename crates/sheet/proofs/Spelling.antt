@@ -6,6 +6,8 @@
 --   spelled-one      a number below 10 is spelled by one digit
 --   spelled-more     a number from 10 on is spelled by the digits of its tenth, and one more behind them
 --   blank-first      a blank, and bytes behind it
+--   first-refused    the first line of a refusal
+--   first-drawn      the first line of a draw that was done
 --   SoFar            a line, as far as it is written
 --   line-none        a line of which nothing is written
 --   line-room        a line has room for a text behind it
@@ -27,9 +29,20 @@ use native.Mathlib.Omega.{arith}
 use lib.Dec.{ltb}
 use lib.ListN.{length, take, drop, set, length-append, take-append-drop}
 use lib.Seq.{take-length, length-take-le, set-split, paste}
-use borrow.Author.Tests.{lt-ltb, le-ltb, ltb-true, ltb-false}
+use borrow.Author.Tests.{lt-ltb, le-ltb, ltb-true, ltb-false, ne-eqb}
 use Rattle.rolls.proofs.Writing.{drop-more, wrote-front, wrote-back, wrote-length}
-use Rattle.sheet.specs.Text.{digits, decimal, put}
+use Rattle.sheet.specs.Text.{digits, decimal, drawLine, refusedLine, firstLine}
+use Rattle.sheet.specs.Inner.{put}
+use Rattle.sheet.specs.declared.run.Drawn.{Drawn}
+
+-- ---- the first line
+
+module _ (d : Drawn) where
+  pub first-refused : (d .no ≡ 0 → ⊥) → firstLine d ≡ refusedLine (d .no) (d .batch)
+  first-refused h = rw (ne-eqb (d .no) 0 h, firstLine)
+
+  pub first-drawn : d .no ≡ 0 → firstLine d ≡ drawLine (d .records) (d .k) (d .next) (d .rejected)
+  first-drawn e = rw (e, firstLine)
 
 -- ---- a number in decimal
 

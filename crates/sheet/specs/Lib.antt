@@ -1,3 +1,4 @@
 pub mod Sheet
 pub mod Operations
 pub mod Text
+pub mod Inner

@@ -7,12 +7,12 @@
 --   drawLine n k used rejected  `draw`, the count of records, k, the words used, the words rejected
 --   slotLine w slot x           the number of the slot, from 1, its record x, and `early` for the first w slots, else `late`
 --   refusedLine number batch    `refused`, the number of the refusal, and the batch
---   put out at bs               the list out with the bytes bs at a place
+--   firstLine d                 the first line that tells of a draw
 use mathlib.Core.Bool.{true, false}
 use mathlib.Core.List.{List, [], _∷_, _++_}
 use Prim.Native.Nat.{ℕ, zero, suc, _+_, _/_, _%_}
-use lib.Dec.{ltb}
-use lib.ListN.{length, take, drop}
+use lib.Dec.{ltb, eqb}
+use Rattle.sheet.specs.declared.run.Drawn.{Drawn}
 
 -- the digits of n / 10, and then the last one; 48 is the code of `0`
 unfoldable pub digits : ℕ → ℕ → List ℕ
@@ -50,7 +50,6 @@ slotLine w slot x = line (decimal (slot + 1) ∷ decimal x ∷ elim (ltb slot w)
 abbrev pub refusedLine : ℕ → ℕ → List ℕ
 refusedLine number batch = line (refusedText ∷ decimal number ∷ decimal batch ∷ [])
 
--- ---- what inner contracts cite
-
-abbrev pub put : List ℕ → ℕ → List ℕ → List ℕ
-put out at bs = take at out ++ (bs ++ drop (at + length bs) out)
+-- where nothing is refused, the draw, from start 0, so that next is the count of words used
+abbrev pub firstLine : Drawn → List ℕ
+firstLine d = elim (eqb (d .no) 0) [ true ↦ drawLine (d .records) (d .k) (d .next) (d .rejected) | false ↦ refusedLine (d .no) (d .batch) ]

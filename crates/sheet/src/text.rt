@@ -1,9 +1,11 @@
 // The lines that the draw-sheet program prints, each written to the front of a lent list of bytes.
+use super::run::Drawn;
 ghost use mathlib.Core.Path.{_≡_};
 ghost use mathlib.Core.List.{_∷_, _++_};
 ghost use Prim.Native.Nat.{_+_, _≤_, _<_, _^_};
 ghost use lib.ListN.{length, drop};
-ghost use Rattle.sheet.specs.Text.{put, decimal, drawLine, slotLine, refusedLine};
+ghost use Rattle.sheet.specs.Text.{decimal, drawLine, slotLine, refusedLine, firstLine};
+ghost use Rattle.sheet.specs.Inner.{put};
 
 // Room for any line: the longest, `draw` and four numbers of at most 20 digits, has 89 bytes.
 pub const LINE: usize = 96;
@@ -45,7 +47,7 @@ fn put_field(n: u64, out: &mut [u8], at: usize) -> usize
 }
 
 // Writes the line of a draw that was done: `draw`, the count of records, k, the words used, the words rejected.
-pub fn draw_line(n: u64, k: u64, used: u64, rejected: u64, out: &mut [u8]) -> usize
+fn draw_line(n: u64, k: u64, used: u64, rejected: u64, out: &mut [u8]) -> usize
     requires { ⌜ 96 ≤ length (now out) ⌝ }
     ensures { λ r. ⌜ (r ≡ length (drawLine n k used rejected)) × (now (out .exit) ≡ drawLine n k used rejected ++ drop r (now (out .entry))) ⌝ }
 {
@@ -55,6 +57,35 @@ pub fn draw_line(n: u64, k: u64, used: u64, rejected: u64, out: &mut [u8]) -> us
     let at = put_field(used, out, at);
     let at = put_field(rejected, out, at);
     put_text(b"\n", out, at)
+}
+
+// Writes the line of a refusal: `refused`, its number, and the batch.
+fn refused_line(number: u64, batch: u64, out: &mut [u8]) -> usize
+    requires { ⌜ 96 ≤ length (now out) ⌝ }
+    ensures { λ r. ⌜ (r ≡ length (refusedLine number batch)) × (now (out .exit) ≡ refusedLine number batch ++ drop r (now (out .entry))) ⌝ }
+{
+    let at = put_text(b"refused", out, 0);
+    let at = put_field(number, out, at);
+    let at = put_field(batch, out, at);
+    put_text(b"\n", out, at)
+}
+
+// Writes the first line that tells of a draw: the draw's where nothing is refused, else the refusal's. A draw starts at 0, so that next
+// is the count of words used.
+pub fn first_line(drawn: Drawn, out: &mut [u8]) -> usize
+    requires { ⌜ 96 ≤ length (now out) ⌝ }
+    ensures { λ r. ⌜ (r ≡ length (firstLine drawn)) × (now (out .exit) ≡ firstLine drawn ++ drop r (now (out .entry))) ⌝ }
+{
+    if drawn.no != 0 {
+        return refused_line(drawn.no, drawn.batch as u64, out);
+    }
+    draw_line(
+        drawn.records as u64,
+        drawn.k as u64,
+        drawn.next as u64,
+        drawn.rejected as u64,
+        out,
+    )
 }
 
 // Writes the line of a slot, counted from 0: its number from 1, its record, and whether it is early, one of the first w, or late.
@@ -68,15 +99,4 @@ pub fn slot_line(slot: usize, record: u32, w: u32, out: &mut [u8]) -> usize
         return put_text(b" early\n", out, at);
     }
     put_text(b" late\n", out, at)
-}
-
-// Writes the line of a refusal: `refused`, its number, and the batch.
-pub fn refused_line(number: u64, batch: u64, out: &mut [u8]) -> usize
-    requires { ⌜ 96 ≤ length (now out) ⌝ }
-    ensures { λ r. ⌜ (r ≡ length (refusedLine number batch)) × (now (out .exit) ≡ refusedLine number batch ++ drop r (now (out .entry))) ⌝ }
-{
-    let at = put_text(b"refused", out, 0);
-    let at = put_field(number, out, at);
-    let at = put_field(batch, out, at);
-    put_text(b"\n", out, at)
 }

@@ -33,32 +33,26 @@ slice-aggregate-run-sheet-2 c = search needs
 run-sheet-requires : tie.Need-run-sheet-requires
 run-sheet-requires c κs = search needs
 
-print-refusal-requires : tie.Need-print-refusal-requires
-print-refusal-requires c κs = search needs
-
-returns : tie.Need-returns
-returns c = search needs
-
-print-draw-requires : tie.Need-print-draw-requires
-print-draw-requires c κs = search needs
+print-first-requires : tie.Need-print-first-requires
+print-first-requires c κs = search needs
 
 cast-k : tie.Need-cast-k
 cast-k c = search needs
 
 array-share-prefix-slots : tie.Need-array-share-prefix-slots
-array-share-prefix-slots c = fits (c .before .before .before .before .before .before)
+array-share-prefix-slots c = fits (c .before .before .before .before)
 
 slice-aggregate-print-slots : tie.Need-slice-aggregate-print-slots
-slice-aggregate-print-slots c = sym (length-take-le _ _ (fits (c .before .before .before .before .before .before .before)))
+slice-aggregate-print-slots c = sym (length-take-le _ _ (fits (c .before .before .before .before .before)))
 
 print-slots-requires : tie.Need-print-slots-requires
 print-slots-requires c κs = search needs
 
+returns : tie.Need-returns
+returns c = search needs
+
 returns-2 : tie.Need-returns-2
 returns-2 c = search needs
-
-returns-3 : tie.Need-returns-3
-returns-3 c = search needs
 
 pub main-spec : {M : Type 1} → statement M
 main-spec =
@@ -71,12 +65,10 @@ main-spec =
     slice-aggregate-run-sheet
     slice-aggregate-run-sheet-2
     run-sheet-requires
-    print-refusal-requires
-    returns
-    print-draw-requires
+    print-first-requires
     cast-k
     array-share-prefix-slots
     slice-aggregate-print-slots
     print-slots-requires
-    returns-2
-    returns-3)
+    returns
+    returns-2)
