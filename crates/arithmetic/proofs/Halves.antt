@@ -1,17 +1,23 @@
 -- The product of two words by halves of 32 bits. Assumes nothing.
+--
+--   four-halves                 each product of two halves is at most (2^32 - 1)^2
+--   high-columns, low-columns   the columns added with their carries are the high and the low half of the product
 use mathlib.Core.Path.{_≡_, ap₂, _∙_, sym, ap}
 use Prim.Native.Nat.{ℕ, _+_, _*_, _/_, _%_, _^_, _<_, _≤_}
 use native.Mathlib.Nat.{div-add-mod', mul-le-mul}
 use native.Mathlib.Omega.{arith}
 use lib.Arith.{digits-div}
 
--- two halves multiply to at most (2^32 - 1)^2
-halves : {x y : ℕ} → x < 2 ^ 32 → y < 2 ^ 32 → x * y ≤ 18446744065119617025
+-- (2^32 - 1)^2, the largest product of two halves
+abbrev most : ℕ
+most = 18446744065119617025
+
+halves : {x y : ℕ} → x < 2 ^ 32 → y < 2 ^ 32 → x * y ≤ most
 halves {x} {y} h k = mul-le-mul {n₁ = x} {m₁ = y} {n₂ = 4294967295} {m₂ = 4294967295} (omega arith) (omega arith)
 
 pub four-halves : (a b : ℕ) → a < 2 ^ 64 → b < 2 ^ 64
-    → (a % 2 ^ 32 * (b % 2 ^ 32) ≤ 18446744065119617025) × (a / 2 ^ 32 * (b % 2 ^ 32) ≤ 18446744065119617025)
-    × (a % 2 ^ 32 * (b / 2 ^ 32) ≤ 18446744065119617025) × (a / 2 ^ 32 * (b / 2 ^ 32) ≤ 18446744065119617025)
+    → (a % 2 ^ 32 * (b % 2 ^ 32) ≤ most) × (a / 2 ^ 32 * (b % 2 ^ 32) ≤ most)
+    × (a % 2 ^ 32 * (b / 2 ^ 32) ≤ most) × (a / 2 ^ 32 * (b / 2 ^ 32) ≤ most)
 four-halves a b h k =
     (halves (omega arith) (omega arith), halves (omega arith) (omega arith), halves (omega arith) (omega arith), halves (omega arith) (omega arith))
 
@@ -30,20 +36,20 @@ module _ (x y z u : ℕ) where
   abbrev upper : ℕ
   upper = z + middle % 2 ^ 32
 
-  abbrev pub highOf : ℕ
+  abbrev highOf : ℕ
   highOf = u + middle / 2 ^ 32 + upper / 2 ^ 32
 
-  pub carried : u * 2 ^ 64 + (y + z) * 2 ^ 32 + x ≡ highOf * 2 ^ 64 + (upper % 2 ^ 32 * 2 ^ 32 + x % 2 ^ 32)
+  carried : u * 2 ^ 64 + (y + z) * 2 ^ 32 + x ≡ highOf * 2 ^ 64 + (upper % 2 ^ 32 * 2 ^ 32 + x % 2 ^ 32)
   carried = omega arith
 
-  pub carried-high : (u * 2 ^ 64 + (y + z) * 2 ^ 32 + x) / 2 ^ 64 ≡ highOf
+  carried-high : (u * 2 ^ 64 + (y + z) * 2 ^ 32 + x) / 2 ^ 64 ≡ highOf
   carried-high = ap (λ (n : ℕ). n / 2 ^ 64) carried ∙ digits-div highOf (omega arith)
 
   -- the low half needs the columns' lower parts alone
-  abbrev pub lowOf : ℕ
+  abbrev lowOf : ℕ
   lowOf = (y % 2 ^ 32 + z % 2 ^ 32 + x / 2 ^ 32) % 2 ^ 32 * 2 ^ 32 + x % 2 ^ 32
 
-  pub carried-low : (u * 2 ^ 64 + (y + z) * 2 ^ 32 + x) % 2 ^ 64 ≡ lowOf
+  carried-low : (u * 2 ^ 64 + (y + z) * 2 ^ 32 + x) % 2 ^ 64 ≡ lowOf
   carried-low = omega arith
 
 pub high-columns : (a b : ℕ) → highOf (a % 2 ^ 32 * (b % 2 ^ 32)) (a / 2 ^ 32 * (b % 2 ^ 32)) (a % 2 ^ 32 * (b / 2 ^ 32)) (a / 2 ^ 32 * (b / 2 ^ 32)) ≡ a * b / 2 ^ 64

@@ -1,9 +1,22 @@
--- A product held against a limit. Assumes nothing.
+-- Products held against a limit, and bounds that are 0. Assumes nothing.
+--
+--   clash                                         a case that does not arise
+--   leb-div                                       p is at most limit / b exactly where p * b is at most the limit
+--   against-below, against-whole, against-above   what is held of a number, by where it lies
+--   held-below, held-whole, held-above            where a number lies, by what is held of it
+--   is-below, is-whole, is-above                  where p * b lies, by the two tests that the code makes
+--   some                                          p is 1 or more where p * b passes 2^64 - 1
+--   grown-against                                 what is held of a product, with one bound more
+--   product-snoc, product-more                    a product with one bound more
+--   or-left, or-right                             each of two tests fails where neither passes
+--   zero-nowhere                                  where no bound is 0, each is 1 or more
+--   zero-here, zero-later, zero-none              whether some bound from a place on is 0
+--   product-some, product-pos                     the product of bounds that are all 1 or more is 1 or more
 use mathlib.Core.Path.{_≡_, refl, sym, ap, _∙_}
 use mathlib.Core.Bool.{Bool, true, false, _||_}
 use mathlib.Core.List.{List, [], _∷_, _++_}
 use Prim.Native.Nat.{ℕ, zero, suc, suc-le-suc, zero-le, _+_, _-_, _*_, _/_, _^_, _<_, _≤_}
-use native.Mathlib.Nat.{le-div-iff-mul-le, lt-of-not-le, mul-pos, le-mul-of-pos-right, not-suc-le-zero, le-of-suc-le-suc}
+use native.Mathlib.Nat.{le-div-iff-mul-le, lt-of-not-le, mul-pos, le-mul-of-pos-right, not-suc-le-zero, le-of-suc-le-suc, pos-of-ne-zero}
 use native.Mathlib.Numerals.{add-one}
 use native.Mathlib.Omega.{arith}
 use lib.Dec.{leb, ltb, eqb}
@@ -15,6 +28,10 @@ use Rattle.arithmetic.specs.Rolls.{product, hasZero}
 use Rattle.arithmetic.specs.Products.{against, grown}
 use Rattle.arithmetic.specs.declared.bounds.Product.{Product}
 use Rattle.arithmetic.specs.declared.bounds.Product.the-variants.{Below, Whole, Above}
+
+-- a case that does not arise, where two variants would be one: `clash cc`
+pub clash : {A : Type 0} → _≡_ {A = ℕ} 0 1 → A
+clash z = absurd (let n : ⊥ = omega arith in n)
 
 -- ---- a quotient tells whether a product passes a limit
 
@@ -46,9 +63,6 @@ record Held (n : ℕ) (x : Product) : Type 0 where
   whole : x ≡ Whole → n ≡ 2 ^ 64
   above : x ≡ Above → 2 ^ 64 < n
 
-clash : {A : Type 0} → _≡_ {A = ℕ} 0 1 → A
-clash z = absurd (let n : ⊥ = omega arith in n)
-
 held : (n : ℕ) → Held n (against n)
 held n = go (ltb n (2 ^ 64)) refl (eqb n (2 ^ 64)) refl
   where
@@ -56,15 +70,15 @@ held n = go (ltb n (2 ^ 64)) refl (eqb n (2 ^ 64)) refl
     go true e u f =
         let l : n < 2 ^ 64 = ltb-true n (2 ^ 64) e in
         let x : against n ≡ Below n = against-below n l in
-        record { below = λ b g. (cc, l); whole = λ g. clash (cc); above = λ g. clash (cc) }
+        record { below = λ b g. (cc, l); whole = λ g. clash cc; above = λ g. clash cc }
     go false e true f =
         let w : n ≡ 2 ^ 64 = eqb-true n (2 ^ 64) f in
         let x : against n ≡ Whole = against-whole n w in
-        record { below = λ b g. clash (cc); whole = λ g. w; above = λ g. clash (cc) }
+        record { below = λ b g. clash cc; whole = λ g. w; above = λ g. clash cc }
     go false e false f =
         let l : 2 ^ 64 < n = lt-of-le-ne (ltb-false n (2 ^ 64) e) (λ w. eqb-false n (2 ^ 64) f (sym w)) in
         let x : against n ≡ Above = against-above n l in
-        record { below = λ b g. clash (cc); whole = λ g. clash (cc); above = λ g. l }
+        record { below = λ b g. clash cc; whole = λ g. clash cc; above = λ g. l }
 
 module _ (n : ℕ) where
   pub held-below : (b : ℕ) → against n ≡ Below b → (b ≡ n) × (n < 2 ^ 64)
@@ -126,10 +140,6 @@ product-more bs i h = rw (add-one i, take-suc bs i 0 h) (product-snoc (take i bs
 
 -- ---- no bound is 0
 
-pub pos-of-ne : (n : ℕ) → (n ≡ 0 → ⊥) → 0 < n
-pos-of-ne zero h = absurd (h refl)
-pos-of-ne (suc n) h = omega arith
-
 pub or-left : (a b : Bool) → (a || b) ≡ false → a ≡ false
 or-left true b e = e
 or-left false b e = refl
@@ -141,7 +151,7 @@ or-right false b e = e
 pub zero-nowhere : (bs : List ℕ) (i : ℕ) → hasZero bs ≡ false → i < length bs → 0 < getD bs i 0
 unfolding hasZero
 zero-nowhere [] i e h = absurd (not-suc-le-zero h)
-zero-nowhere (b ∷ bs) zero e h = pos-of-ne b (λ z. eqb-false b 0 (or-left (eqb b 0) (hasZero bs) e) z)
+zero-nowhere (b ∷ bs) zero e h = pos-of-ne-zero (eqb-false b 0 (or-left (eqb b 0) (hasZero bs) e))
 zero-nowhere (b ∷ bs) (suc i) e h = zero-nowhere bs i (or-right (eqb b 0) (hasZero bs) e) (le-of-suc-le-suc h)
 
 module _ (bs : List ℕ) (i : ℕ) (h : i < length bs) where

@@ -1,14 +1,17 @@
 -- The laws of rolls, over every width L: the whole-number part of Theorem 1 of source document 000. Assumes nothing.
 --
---   key-law            product times word = 2^L times the value of the rolls + the last r
---   rest-below         the last r is below 2^L
---   rest-low           the last r is the low half of product times word: no unfolding is needed to test a word
---   rolls-length       as many rolls as bounds
---   rolls-in-range     each roll below its bound
---   value-below        rolls in range have a value below the product
---   value-one          and no two of them have the same
---   threshold-wraps    t is zero less b, taken with wrap, mod b
---   threshold-whole    t is 0 for b = 2^L
+--   key-law                              product times word = 2^L times the value of the rolls + the last r
+--   rest-below                           the last r is below 2^L
+--   rest-low                             the last r is the low half of product times word: no unfolding is needed to test a word
+--   rolls-length                         as many rolls as bounds
+--   product-pos-head, product-pos-tail   where a product is 1 or more, so is each factor
+--   both                                 two tests pass together exactly where each passes
+--   in-range-cons                        rolls in range, one roll at a time
+--   roll-below, rolls-in-range           each roll is below its bound
+--   value-below                          rolls in range have a value below the product
+--   value-one                            and no two of them have the same
+--   threshold-wraps                      t is zero less b, taken with wrap, mod b
+--   threshold-whole                      t is 0 for b = 2^L
 use mathlib.Core.Path.{_≡_, refl, sym, ap, ap₂, _∙_}
 use mathlib.Core.Logic.{_↔_}
 use mathlib.Core.Bool.{Bool, true, false, _&&_}
@@ -58,7 +61,7 @@ pub product-pos-tail : (b m : ℕ) → 0 < b * m → 0 < m
 product-pos-tail b zero h = omega arith
 product-pos-tail b (suc m) h = omega arith
 
-both : (a b : Bool) → T (a && b) ↔ (T a × T b)
+pub both : (a b : Bool) → T (a && b) ↔ (T a × T b)
 both true b = (λ t. (tt, t), λ p. p .1)
 both false b = (λ t. absurd t, λ p. absurd (p .0))
 
@@ -68,12 +71,15 @@ in-range-cons b bs r rs =
     let e = both (ltb r b) (inRange bs rs) in
     (λ t. (ltb→lt r b (e .0 t .0), e .0 t .1), λ p. e .1 (lt→ltb r b (p .0), p .1))
 
+pub roll-below : (L b r : ℕ) → 0 < b → r < 2 ^ L → b * r / 2 ^ L < b
+roll-below L b r p h = (div-lt-iff-lt-mul (pow-pos L)) .1 (mul-lt-mul-of-pos-left h p)
+
 pub rolls-in-range : (L : ℕ) (bs : List ℕ) (r : ℕ) → 0 < product bs → r < 2 ^ L → T (inRange bs (rolls L bs r))
 unfolding rolls product inRange
 rolls-in-range L [] r p h = tt
 rolls-in-range L (b ∷ bs) r p h =
     in-range-cons b bs (b * r / 2 ^ L) (rolls L bs (b * r % 2 ^ L)) .1 (
-      (div-lt-iff-lt-mul (pow-pos L)) .1 (mul-lt-mul-of-pos-left h (product-pos-head b (product bs) p)),
+      roll-below L b r (product-pos-head b (product bs) p) h,
       rolls-in-range L bs (b * r % 2 ^ L) (product-pos-tail b (product bs) p) (mod-lt (b * r) (pow-pos L)),
     )
 

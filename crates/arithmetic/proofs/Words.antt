@@ -1,9 +1,10 @@
 -- The run of words behind rolls, over every width L. Assumes nothing.
 --
---   words-behind      the words that give the rolls, accepted, are exactly those from the first to the last
---   first-last        the first is at most the last
---   last-fits         and the last is a word
---   run-length        the run has 2^L / product words, whichever the rolls are
+--   words-behind   the words that give the rolls, accepted, are exactly those from the first to the last
+--   first-last     the first is at most the last
+--   last-fits      and the last is a word
+--   run-length     the run has 2^L / product words, whichever the rolls are
+--   window-fits    that the last is a word, as numbers
 use mathlib.Core.Path.{_≡_, ap, subst}
 use mathlib.Core.Logic.{_↔_}
 use mathlib.Core.List.{List}
@@ -14,7 +15,7 @@ use lib.Dec.{T, leb→le, le→leb}
 use Rattle.arithmetic.specs.Rolls.{rolls, rest, product, value, threshold, accepted, inRange, up, firstWord, lastWord}
 use Rattle.arithmetic.proofs.Rolls.{key-law, rest-below, rolls-in-range, value-below, value-one}
 
-pub up-le : (x w : ℕ) {b : ℕ} → 0 < b → (up x b ≤ w) ↔ (x ≤ b * w)
+up-le : (x w : ℕ) {b : ℕ} → 0 < b → (up x b ≤ w) ↔ (x ≤ b * w)
 up-le x w {b} p = (
   λ h. let f : x + (b - 1) < suc w * b = (div-lt-iff-lt-mul p) .0 (suc-le-suc h) in omega arith,
   λ h. let f : x + (b - 1) < suc w * b = omega arith in le-of-suc-le-suc ((div-lt-iff-lt-mul p) .1 f),

@@ -8,7 +8,6 @@
 --   rolls-behind       so its rolls, looked up, and no others in range shuffle 0, 1, .., n - 1 into it
 use mathlib.Core.Path.{_≡_, refl, sym, ap, _∙_}
 use mathlib.Core.Logic.{_↔_}
-use mathlib.Core.Bool.{Bool, true, false, _&&_}
 use mathlib.Core.List.{List, [], _∷_}
 use Prim.Native.Nat.{ℕ, zero, suc, suc-le-suc, zero-le, _+_, _<_, _≤_}
 use native.Mathlib.Nat.{le-of-suc-le-suc, not-suc-le-zero, le-refl}
@@ -17,6 +16,7 @@ use native.Mathlib.Omega.{arith}
 use lib.Dec.{T, eqb, eqb→eq}
 use lib.ListN.{length, getD}
 use borrow.Author.Tests.{eq-eqb, ne-eqb}
+use Rattle.arithmetic.proofs.Rolls.{both}
 use Rattle.draws.specs.Sample.{countup}
 use Rattle.draws.specs.Order.{count, eachOnce, isOrder, rollsInto, AllBelow, Distinct, Among, Reorders, Only}
 use Rattle.draws.proofs.Plans.{countup-length, countup-at}
@@ -126,10 +126,6 @@ total-below n (y ∷ ys) l i h = go (decLt y n) (total-below n ys) i h
     go (no k) ih i h = absurd (let z : ⊥ = omega (arith, total-miss n y ys (omega arith), total-most n ys) in z)
 
 -- ---- each once
-
-both : (a b : Bool) → T (a && b) ↔ (T a × T b)
-both true b = (λ t. (tt, t), λ p. p .1)
-both false b = (λ t. absurd t, λ p. absurd (p .0))
 
 each-cons : (i : ℕ) (ys : List ℕ) → T (eachOnce (suc i) ys) ↔ ((count i ys ≡ 1) × T (eachOnce i ys))
 unfolding eachOnce

@@ -1,24 +1,23 @@
--- The rolls behind an order, with marks in place of a search: the loops of `write_countdown` and `write_behind`. The marks are the
--- inverse of the list as it stands: the mark of a record is its place, counted from 1. Assumes nothing.
+-- The rolls behind an order, with marks in place of a search: the loop of `write_behind`. The marks are the inverse of the list as it
+-- stands: the mark of a record is its place, counted from 1. Assumes nothing.
 --
---   Counting, count-turn, count-done   the records 1, .., n - 1 at their places, which the lent list holds from the end
---   Placing                            with m records still to place: the list as it stands, its marks, and what the lent list holds
---   place-start                        before the first turn
---   Looked, place-look                 what a turn reads: a mark, and the record that is moved
---   Moved, move-none, move-one         the lent list with that record moved
---   place-turn                         one turn
---   place-done                         with one record or none still to place the rolls are written
+--   Inverting                    with m records still to place: the list as it stands, its marks, and what the lent list holds
+--   invert-start                 before the first turn
+--   Looked, invert-look          what a turn reads: a mark, and the record that is moved
+--   Moved, move-none, move-one   the lent list with that record moved
+--   invert-turn                  one turn
+--   invert-done                  with one record or none still to place the rolls are written
 use mathlib.Core.Path.{_≡_, refl, sym, ap, _∙_}
 use mathlib.Core.Logic.{_≢_}
 use mathlib.Core.Bool.{true}
-use mathlib.Core.List.{List, _∷_, _++_, append-assoc, append-nil}
-use Prim.Native.Nat.{ℕ, suc, _+_, _-_, _<_, _≤_}
+use mathlib.Core.List.{List, _++_, append-assoc, append-nil}
+use Prim.Native.Nat.{ℕ, _+_, _-_, _<_, _≤_}
 use native.Mathlib.Decide.{ℕ-discrete, decLt}
 use native.Mathlib.Omega.{arith}
 use lib.Dec.{T}
 use lib.ListN.{length, take, drop, getD, set, length-set, take-append-drop, List·getD-eq-default}
 use lib.Seq.{getD-set-same, getD-set-other, getD-take, take-set-le, drop-set-lt}
-use Rattle.rolls.proofs.Writing.{stored-front, stored-back}
+use Rattle.rolls.proofs.Writing.{stored-front}
 use Rattle.draws.specs.Shuffle.{exchange, countdown}
 use Rattle.draws.specs.Sample.{countup}
 use Rattle.draws.specs.Order.{isOrder, placeOf, rollsInto}
@@ -26,39 +25,11 @@ use Rattle.draws.proofs.Plans.{countdown-at, countup-length, countup-at
 use Rattle.draws.proofs.Orders.{exchange-first, exchange-other, rolls-into-step, rolls-into-none, Midway, midway-start, midway-roll, midway-step}
 use Rattle.draws.proofs.Each.{order-reorders, countup-distinct}
 
--- ---- the records as they stand at the start
-
--- the first i of s, s - 1, .., 1 are written
-abbrev pub Counting : ℕ → List ℕ → List ℕ → ℕ → Type 0
-Counting s out₀ out i =
-    (i ≤ s) × (length out ≡ length out₀) × (take i out ++ countdown (s - i) (s - i) ≡ countdown s s) × (drop i out ≡ drop i out₀)
-
-module _ (s : ℕ) (out₀ out : List ℕ) (i : ℕ) (v : Counting s out₀ out i) where
-  pub count-turn : i < s → s ≤ length out₀ → Counting s out₀ (set out i (s - i)) (i + 1)
-  unfolding countdown
-  count-turn h room =
-      let e : s - i ≡ suc (s - (i + 1)) = omega arith in
-      let f : s - i - 1 ≡ s - (i + 1) = omega arith in
-      let next : countdown (s - i) (s - i) ≡ (s - i) ∷ countdown (s - (i + 1)) (s - (i + 1))
-      = ap (λ (k : ℕ). countdown k (s - i)) e ∙ ap (λ (k : ℕ). (s - i) ∷ countdown (s - (i + 1)) k) f in (
-        omega arith,
-        length-set out i (s - i) ∙ v .1,
-        rw (stored-front out i (s - i) (omega arith), append-assoc) (ap (λ (l : List ℕ). take i out ++ l) (sym next) ∙ v .2),
-        stored-back out out₀ i (s - i) (v .3),
-      )
-
-  pub count-done : s ≤ i → (take s out ≡ countdown s s) × (drop s out ≡ drop s out₀)
-  unfolding countdown
-  count-done h =
-      let e : i ≡ s = omega arith in
-      let none : s - s ≡ 0 = omega arith in
-      (sym (append-nil (take s out)) ∙ (rw (e, none) at (v .2)), rw e at (v .3))
-
 -- ---- the list as it stands
 
 -- xs is the list as it stands, and its records below place m have their place, counted from 1, as their mark; the lent list holds the
 -- rolls so far, then the records at places m - 1, .., 1, then what it held
-pub record Placing (ys out₀ marks out : List ℕ) (m : ℕ) : Type 0 where
+pub record Inverting (ys out₀ marks out : List ℕ) (m : ℕ) : Type 0 where
   pub xs : List ℕ
   pub midway : Midway m xs ys
   pub some : length ys - m ≤ length ys - 1
@@ -69,10 +40,10 @@ pub record Placing (ys out₀ marks out : List ℕ) (m : ℕ) : Type 0 where
   pub rolled : take (length ys - m) out ++ rollsInto m xs ys ≡ rollsInto (length ys) (countup (length ys) 0) ys
   pub rest : drop (length ys - 1) out ≡ drop (length ys - 1) out₀
 
-pub place-start : (ys marks out : List ℕ) → isOrder ys ≡ true → length ys ≤ length out + 1
+pub invert-start : (ys marks out : List ℕ) → isOrder ys ≡ true → length ys ≤ length out + 1
     → ((v : ℕ) → v < length ys → getD marks v 0 ≡ v + 1) → take (length ys - 1) out ≡ countdown (length ys - 1) (length ys - 1)
-    → Placing ys out marks out (length ys)
-place-start ys marks out e room marked start =
+    → Inverting ys out marks out (length ys)
+invert-start ys marks out e room marked start =
     let n : ℕ = length ys in
     let t : T (isOrder ys) = rw e tt in
     let none : n - n ≡ 0 = omega arith in
@@ -137,7 +108,7 @@ pub record Looked (ys marks out : List ℕ) (m : ℕ) : Type 0 where
   pub most : getD marks (getD ys (m - 1) 0) 0 ≤ m
   pub last-fits : getD out (length ys - m) 0 < length marks
 
-module _ {ys out₀ marks out : List ℕ} {m : ℕ} (w : Placing ys out₀ marks out m) where
+module _ {ys out₀ marks out : List ℕ} {m : ℕ} (w : Inverting ys out₀ marks out m) where
   module _ (l : 1 < m) where
     inside : m ≤ length ys
     inside = omega (arith, w .midway .fits, w .midway .reorders .same-length)
@@ -150,8 +121,8 @@ module _ {ys out₀ marks out : List ℕ} {m : ℕ} (w : Placing ys out₀ marks
         let e : length ys - 1 - (m - 1) ≡ length ys - m = omega arith in
         rw e at (w .standing (m - 1) (omega arith) (omega arith))
 
-    pub place-look : Looked ys marks out m
-    place-look = record {
+    pub invert-look : Looked ys marks out m
+    invert-look = record {
       inside = inside;
       record-fits = within marks (getD ys (m - 1) 0) (omega (arith, mark));
       some = omega (arith, mark);
@@ -180,7 +151,7 @@ module _ {ys out₀ marks out : List ℕ} {m : ℕ} (w : Placing ys out₀ marks
       inverse i h = go (ℕ-discrete i r)
         where
           go : Dec (i ≡ r) → getD (set marks v (r + 1)) (getD (exchange (w .xs) r (m - 1)) i 0) 0 ≡ i + 1
-          go (yes d) = rw (d, comes) (getD-set-same marks v (r + 1) 0 (rw f (place-look .last-fits)))
+          go (yes d) = rw (d, comes) (getD-set-same marks v (r + 1) 0 (rw f (invert-look .last-fits)))
           go (no d) =
               let other : getD (w .xs) i 0 ≢ v = λ g.
               let same = w .midway .distinct i (m - 1) (omega (arith, w .midway .fits)) (omega (arith, w .midway .fits)) (g ∙ is-last) in
@@ -205,8 +176,8 @@ module _ {ys out₀ marks out : List ℕ} {m : ℕ} (w : Placing ys out₀ marks
             rw (one, stored-front mid (length ys - m) r h, append-assoc, moved .front)
             (rw (rolls-into-step m (w .xs) ys l, is-roll) at (w .rolled))
 
-        pub place-turn : Placing ys out₀ (set marks v (r + 1)) (set mid (length ys - m) r) (m - 1)
-        place-turn = record {
+        pub invert-turn : Inverting ys out₀ (set marks v (r + 1)) (set mid (length ys - m) r) (m - 1)
+        invert-turn = record {
           xs = exchange (w .xs) r (m - 1);
           midway = midway-step (w .midway) r l below (rw is-roll at (midway-roll (w .midway) l .1));
           some = omega (arith, inside);
@@ -218,8 +189,8 @@ module _ {ys out₀ marks out : List ℕ} {m : ℕ} (w : Placing ys out₀ marks
           rest = drop-set-lt (length ys - 1) mid (length ys - m) r (omega (arith, inside)) ∙ moved .back ∙ w .rest;
         }
 
-  pub place-done : m ≤ 1 → out ≡ rollsInto (length ys) (countup (length ys) 0) ys ++ drop (length ys - 1) out₀
-  place-done h =
+  pub invert-done : m ≤ 1 → out ≡ rollsInto (length ys) (countup (length ys) 0) ys ++ drop (length ys - 1) out₀
+  invert-done h =
       let e : length ys - m ≡ length ys - 1 = omega (arith, w .some) in
       let front : take (length ys - 1) out ≡ rollsInto (length ys) (countup (length ys) 0) ys
       = sym (append-nil (take (length ys - 1) out)) ∙ (rw (e, rolls-into-none m (w .xs) ys h) at (w .rolled)) in

@@ -32,6 +32,7 @@ is-false false n = refl
 
 -- ---- the marks
 
+-- the first i numbers of the list are below n, different and marked, and no other number is marked
 pub record Marking (ys marks : List ℕ) (i : ℕ) : Type 0 where
   pub marked : (k : ℕ) → k < i → getD marks (getD ys k 0) 0 ≡ getD ys k 0 + 1
   pub met : (v : ℕ) → getD marks v 0 ≢ 0 → (k : ℕ) × (k < i) × (getD ys k 0 ≡ v)

@@ -1,4 +1,7 @@
 -- The rolls behind an order, refusal by refusal. Assumes nothing.
+--
+--   order-count, order-room, order-not   numbers 2, 6 and 8
+--   order-done                           the rolls that are looked up, where none of them applies
 use mathlib.Core.Path.{_≡_, ap, _∙_}
 use mathlib.Core.Bool.{true, false, not}
 use mathlib.Core.List.{List, [], _∷_}

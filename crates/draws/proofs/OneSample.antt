@@ -1,4 +1,9 @@
 -- A sample, refusal by refusal. Assumes nothing.
+--
+--   sample-count, sample-size, sample-room   numbers 2, 3 and 6
+--   sample-start, sample-short               numbers 9 and 10
+--   sample-done                              done, where none of them applies
+--   sample-length                            as many values as slots
 use mathlib.Core.Path.{_≡_, refl, ap, _∙_}
 use mathlib.Core.Bool.{Bool, true, false}
 use mathlib.Core.List.{List, [], _∷_}

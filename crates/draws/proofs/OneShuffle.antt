@@ -1,4 +1,8 @@
 -- A shuffle, refusal by refusal. Assumes nothing.
+--
+--   shuffle-count, shuffle-start, shuffle-short   numbers 2, 9 and 10
+--   shuffle-done                                  done, where none of them applies
+--   whole-list                                    values that fill the lent list leave nothing of it
 use mathlib.Core.Path.{_≡_, sym, ap, _∙_}
 use mathlib.Core.Bool.{true, false}
 use mathlib.Core.List.{List, _++_, append-nil}
@@ -41,6 +45,5 @@ module _ (words : List ℕ) (start : ℕ) (xs : List ℕ) where
       unfolding plan
       shuffle-done to more e = rest ∙ words-drawn 64 plan words start (λ rs. shuffleWith (length xs) rs xs) h to more e
 
--- values that fill the lent list leave nothing of it
 pub whole-list : (values before : List ℕ) → length values ≡ length before → values ≡ values ++ drop (length values) before
 whole-list values before e = sym (ap (λ (l : List ℕ). values ++ l) (drop-of-length-le before {i = length values} (omega arith)) ∙ append-nil values)

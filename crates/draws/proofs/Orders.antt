@@ -1,14 +1,16 @@
--- Orders of different records and series of rolls: each series in range gives an order, and each order comes from one series, the
--- one that is looked up. The batches play no part: a shuffle is one flat series with the bounds n, n - 1, .., 2. Assumes nothing.
+-- Orders of different records and series of rolls: each series in range gives an order, and each order comes from one series, the one
+-- that is looked up. The batches play no part: a shuffle is one flat series with the bounds n, n - 1, .., 2. Assumes nothing.
 --
---   length-exchange, exchange-last, exchange-first, exchange-other    what stands where after an exchange
---   place-of                        the place of a record that stands at one place
---   range-cons                      one roll in range of a shuffle's bounds
---   length-shuffle                  a shuffle keeps the number of records
---   rolls-into-step, rolls-into-none, rolls-into-length    one roll behind an order; none for 0 or 1 record; how many
---   shuffle-reorders                each series of rolls in range gives an order of the records
---   Midway, midway-start, midway-roll, midway-step    shuffled into an order from the end down to a place
---   one-series                      for each order the rolls looked up, and no others in range, give it
+--   length-exchange, exchange-last,                  what stands where after an exchange
+--     exchange-first, exchange-other
+--   place-of                                         the place of a record that stands at one place
+--   range-cons                                       one roll in range of a shuffle's bounds
+--   length-shuffle                                   a shuffle keeps the number of records
+--   shuffle-reorders                                 each series of rolls in range gives an order of the records
+--   Midway, midway-start, midway-roll, midway-step   shuffled into an order from the end down to a place
+--   rolls-into-step, rolls-into-none                 one roll behind an order; none for 0 or 1 record
+--   rolls-into-length                                how many rolls are behind an order
+--   one-series                                       for each order the rolls looked up, and no others in range, give it
 use mathlib.Core.Path.{_≡_, refl, sym, ap, ap₂, _∙_, subst}
 use mathlib.Core.Logic.{_↔_, _≢_}
 use mathlib.Core.Bool.{Bool, true, false}
@@ -51,37 +53,37 @@ unfolding exchange
 exchange-other xs i j k m n = getD-set-other (set xs i (getD xs j 0)) j k (getD xs i 0) 0 n ∙ getD-set-other xs i k (getD xs j 0) 0 m
 
 -- where the record that stands at place k after the exchange stood before it; and that this goes both ways
-record Moved (xs : List ℕ) (i j k : ℕ) : Type 0 where
+record Swapped (xs : List ℕ) (i j k : ℕ) : Type 0 where
   from : ℕ
   fits : from < length xs
   same : getD (exchange xs i j) k 0 ≡ getD xs from 0
   back : getD (exchange xs i j) from 0 ≡ getD xs k 0
 
 module _ (xs : List ℕ) (i j : ℕ) (hi : i < length xs) (hj : j < length xs) where
-  moved : (k : ℕ) → k < length xs → Moved xs i j k
-  moved k hk = go (ℕ-discrete k j) (ℕ-discrete k i)
+  swapped : (k : ℕ) → k < length xs → Swapped xs i j k
+  swapped k hk = go (ℕ-discrete k j) (ℕ-discrete k i)
     where
-      go : Dec (k ≡ j) → Dec (k ≡ i) → Moved xs i j k
+      go : Dec (k ≡ j) → Dec (k ≡ i) → Swapped xs i j k
       go (yes e) d = record { from = i; fits = hi; same = rw e (exchange-last xs i j hj); back = rw e (exchange-first xs i j hi) }
       go (no e) (yes f) = record { from = j; fits = hj; same = rw f (exchange-first xs i j hi); back = rw f (exchange-last xs i j hj) }
       go (no e) (no f) = record { from = k; fits = hk; same = exchange-other xs i j k f e; back = exchange-other xs i j k f e }
 
   among-before : (x : ℕ) → Among x (exchange xs i j) → Among x xs
   among-before x (p, h, e) =
-      let w = moved p (rw length-exchange at h) in
+      let w = swapped p (rw length-exchange at h) in
       (w .from, w .fits, sym (w .same) ∙ e)
 
   among-after : (x : ℕ) → Among x xs → Among x (exchange xs i j)
   among-after x (p, h, e) =
-      let w = moved p h in
+      let w = swapped p h in
       (w .from, rw length-exchange (w .fits), w .back ∙ e)
 
   exchange-distinct : Distinct xs → Distinct (exchange xs i j)
   exchange-distinct d k l hk hl e =
       let fk : k < length xs = rw length-exchange at hk in
       let fl : l < length xs = rw length-exchange at hl in
-      let u = moved k fk in
-      let v = moved l fl in
+      let u = swapped k fk in
+      let v = swapped l fl in
       let one : u .from ≡ v .from = d (u .from) (v .from) (u .fits) (v .fits) (sym (u .same) ∙ e ∙ v .same) in
       d k l fk fl (sym (u .back) ∙ ap (λ (n : ℕ). getD (exchange xs i j) n 0) one ∙ v .back)
 

@@ -1,26 +1,23 @@
 -- The loops of a shuffle: the product of a batch's bounds, and the exchanges of one batch. Assumes nothing.
 --
---   Growing, grow-turn, grow-done       the product of m, m - 1, .., s of them
---   Placing, place-turn, place-done     the records of one batch are placed, one for each bound
-use mathlib.Core.Path.{_≡_, refl, ap, _∙_}
-use mathlib.Core.List.{List, _∷_}
-use Prim.Native.Nat.{ℕ, zero, suc, _-_, _*_, _/_, _%_, _^_, _<_, _≤_}
-use native.Mathlib.Nat.{not-suc-le-zero, le-mul-of-pos-right, mod-lt, div-lt-iff-lt-mul, mul-lt-mul-of-pos-left}
+--   Growing, grow-none, grow-turn, grow-done      the product of m, m - 1, .., s of them
+--   grow-fits                                     each product on the way is a word
+--   Placing, place-none, place-turn, place-done   the records of one batch are placed, one for each bound
+use mathlib.Core.Path.{_≡_, refl, _∙_}
+use mathlib.Core.List.{List}
+use Prim.Native.Nat.{ℕ, _-_, _*_, _/_, _%_, _^_, _<_, _≤_}
+use native.Mathlib.Nat.{le-mul-of-pos-right, mod-lt}
 use native.Mathlib.Omega.{arith}
 use lib.ListN.{length}
 use lib.Pow.{pow-pos}
 use Rattle.arithmetic.specs.Rolls.{rolls, product}
 use Rattle.draws.specs.Shuffle.{exchange, shuffleWith, countdown}
 use Rattle.draws.proofs.Orders.{length-exchange}
-use Rattle.draws.proofs.Plans.{product-countdown}
-
-countdown-cons : (s m : ℕ) → 0 < s → countdown s m ≡ m ∷ countdown (s - 1) (m - 1)
-unfolding countdown
-countdown-cons zero m h = absurd (not-suc-le-zero h)
-countdown-cons (suc s) m h = let e : s ≡ suc s - 1 = omega arith in ap (λ (k : ℕ). m ∷ countdown k (m - 1)) e
+use Rattle.draws.proofs.Plans.{countdown-cons, product-countdown}
 
 -- ---- the product
 
+-- p is the product of the bounds above `bound`, and `left` of them, from `bound` down, are still to come
 abbrev pub Growing : ℕ → ℕ → ℕ → ℕ → ℕ → Type 0
 Growing m s p bound left = (left ≤ bound) × (bound ≤ m) × (p * product (countdown left bound) ≡ product (countdown s m))
 
@@ -55,10 +52,6 @@ Placing L xs₀ m s word xs r bound left =
 
 pub place-none : (L : ℕ) (xs : List ℕ) (m s word : ℕ) → s ≤ m → m ≤ length xs → word < 2 ^ L → Placing L xs m s word xs word m s
 place-none L xs m s word h k w = (h, k, refl, w, refl)
-
--- a roll is below its bound
-pub roll-below : (L b r : ℕ) → 0 < b → r < 2 ^ L → b * r / 2 ^ L < b
-roll-below L b r p h = (div-lt-iff-lt-mul (pow-pos L)) .1 (mul-lt-mul-of-pos-left h p)
 
 module _ (L : ℕ) (xs₀ : List ℕ) (m s word : ℕ) (xs : List ℕ) (r bound left : ℕ) (v : Placing L xs₀ m s word xs r bound left) where
   pub place-turn : (q t : ℕ) → 0 < left → q ≡ bound * r / 2 ^ L → t ≡ bound * r % 2 ^ L

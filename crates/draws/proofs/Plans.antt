@@ -1,20 +1,23 @@
--- The plans of the draws: the batches of a plan, joined, are the bounds that it was made of, and each can be rolled. Over every
--- limit and every choice of a shuffle's sizes; then at 64 bits. Assumes nothing.
+-- The plans of the draws: the batches of a plan, joined, are the bounds that it was made of, and each can be rolled. Over every limit
+-- and every choice of a shuffle's sizes; then at 64 bits. Assumes nothing.
 --
---   countdown-length, countdown-at           m, m - 1, .., s of them
---   countup-length, countup-at, countup-pos  i, i + 1, .., s of them
---   shuffle-bounds-length                    a shuffle of n records has n - 1 bounds
---   no-bounds, bounds-cons                   none for 0 or 1 record; else m, and those of m - 1 records
---   Bounded most bs                          each bound is from 1 to most
---   GoodSize size most m, GoodSizes ..       with m records still to place the next batch leaves one or more and can be rolled; so up to top
---   sizes-more                               sizes that serve a limit serve a larger one
---   shuffle-plan                             the batches of a shuffle are n, n - 1, .., 2
---   plan-end, plan-step                      its first batch, and the batches of the records that are left
---   sizes64, shuffle-plan64                  at 64 bits, for up to 16,384 records; no product is above 2^56
---   cut-plan                                 the batches of a list of bounds are that list
---   sample-plan                              and so those of a sample
+--   countdown-length, countdown-cons, countdown-at   m, m - 1, .., s of them
+--   countup-length, countup-at                       i, i + 1, .., s of them
+--   shuffle-bounds-length                            a shuffle of n records has n - 1 bounds
+--   no-bounds, bounds-cons                           none for 0 or 1 record; else m, and those of m - 1 records
+--   Bounded most bs                                  each bound is from 1 to most
+--   GoodSize size most m                             with m records still to place the next batch leaves one or more and can be rolled
+--   GoodSizes size most top                          so it is for every m from 2 up to top
+--   size-some                                        a batch places a record or more
+--   sizes-more                                       sizes that serve a limit serve a larger one
+--   shuffle-plan                                     the batches of a shuffle are n, n - 1, .., 2
+--   plan-end, plan-step                              its first batch, and the batches of the records that are left
+--   product-countdown                                the product of m, m - 1, .., s of them, is from 1 to top^s
+--   sizes64, shuffle-plan64                          at 64 bits, for up to 16,384 records; no product is above 2^56
+--   cut-plan                                         the batches of a list of bounds are that list
+--   sample-plan                                      and so those of a sample
 use mathlib.Core.Path.{_≡_, refl, sym, ap, _∙_}
-use mathlib.Core.Bool.{Bool, true, false, _&&_}
+use mathlib.Core.Bool.{Bool, true, false, and-eq-true-iff}
 use mathlib.Core.List.{List, [], _∷_, _++_}
 use Prim.Native.Nat.{ℕ, zero, suc, suc-le-suc, zero-le, _+_, _-_, _*_, _^_, _<_, _≤_}
 use native.Mathlib.Nat.{not-suc-le-zero, le-of-suc-le-suc, le-refl, le-trans, mul-pos, mul-le-mul, mul-one, pow-zero, pow-succ', pow-le-pow-right, sub-zero, zero-add, suc-add}
@@ -49,6 +52,11 @@ unfolding countdown
 countdown-length zero m = refl
 countdown-length (suc s) m = ap suc (countdown-length s (m - 1))
 
+pub countdown-cons : (s m : ℕ) → 0 < s → countdown s m ≡ m ∷ countdown (s - 1) (m - 1)
+unfolding countdown
+countdown-cons zero m h = absurd (not-suc-le-zero h)
+countdown-cons (suc s) m h = let e : s ≡ suc s - 1 = omega arith in ap (λ (k : ℕ). m ∷ countdown k (m - 1)) e
+
 pub countdown-at : (s m i : ℕ) → i < s → getD (countdown s m) i 0 ≡ m - i
 unfolding countdown
 countdown-at zero m i h = absurd (not-suc-le-zero h)
@@ -66,9 +74,6 @@ countup-at zero i k h = absurd (not-suc-le-zero h)
 countup-at (suc s) i zero h = omega arith
 countup-at (suc s) i (suc k) h = countup-at s (i + 1) k (le-of-suc-le-suc h) ∙ omega arith
 
-pub countup-pos : (s i k : ℕ) → 0 < i → k < s → 0 < getD (countup s i) k 0
-countup-pos s i k p h = rw (countup-at s i k h) (omega arith)
-
 pub shuffle-bounds-length : (n : ℕ) → length (shuffleBounds n) ≡ n - 1
 shuffle-bounds-length n = countdown-length (n - 1) n
 
@@ -77,10 +82,12 @@ unfolding countdown
 no-bounds m h = let e : m - 1 ≡ 0 = omega arith in rw e
 
 pub bounds-cons : (m : ℕ) → 1 < m → shuffleBounds m ≡ m ∷ shuffleBounds (m - 1)
-unfolding countdown
-bounds-cons m h = let e : m - 1 ≡ suc (m - 1 - 1) = omega arith in ap (λ (s : ℕ). countdown s m) e
+bounds-cons m h = countdown-cons (m - 1) m (omega arith)
 
--- ---- a larger limit
+-- ---- the sizes of a shuffle's batches
+
+pub size-some : {size : ℕ → ℕ} {most m : ℕ} → GoodSize size most m → 0 < size m
+size-some s = rw countdown-length at (s .rollable .some)
 
 rollable-more : {most more : ℕ} {bs : List ℕ} → most ≤ more → Rollable most bs → Rollable more bs
 rollable-more l b = record { some = b .some; few = b .few; positive = b .positive; fits = le-trans (b .fits) l }
@@ -109,7 +116,7 @@ module _ {size : ℕ → ℕ} {most top : ℕ} (z : GoodSizes size most top) whe
       go true e ih = rw (e, shufflePlanFrom) (record { same = sym (no-bounds m (leb-true m 1 e)); rollable = tt })
       go false e ih =
           let s = z m (leb-false m 1 e) t in
-          let some : 0 < size m = rw countdown-length at (s .rollable .some) in
+          let some = size-some s in
           let g = ih (omega (arith, s .less)) (omega arith) in
           let all : size m + (m - size m - 1) ≡ m - 1 = omega (arith, s .less) in
           rw (e, shufflePlanFrom) (record {
@@ -134,9 +141,6 @@ module _ {size : ℕ → ℕ} {most top : ℕ} (z : GoodSizes size most top) whe
   unfolding shufflePlanFrom
   next-batch fuel m h = rw (lt-leb m 1 h, shufflePlanFrom)
 
-  size-some : (m : ℕ) → 1 < m → m ≤ top → 0 < size m
-  size-some m h t = rw countdown-length at (z m h t .rollable .some)
-
   same-fuel : (f g m : ℕ) → m ≤ f → m ≤ g → m ≤ top → shufflePlanFrom size f m ≡ shufflePlanFrom size g m
   same-fuel zero g m h k t = finished zero m (omega arith) ∙ sym (finished g m (omega arith))
   same-fuel (suc f) zero m h k t = finished (suc f) m (omega arith) ∙ sym (finished zero m (omega arith))
@@ -145,7 +149,7 @@ module _ {size : ℕ → ℕ} {most top : ℕ} (z : GoodSizes size most top) whe
       go : Dec (1 < m) → (m - size m ≤ f → m - size m ≤ g → m - size m ≤ top → shufflePlanFrom size f (m - size m) ≡ shufflePlanFrom size g (m - size m))
           → shufflePlanFrom size (suc f) m ≡ shufflePlanFrom size (suc g) m
       go (yes l) ih =
-          let s = size-some m l t in
+          let s = size-some (z m l t) in
           next-batch f m l ∙ ap (λ (p : List (List ℕ)). countdown (size m) m ∷ p) (ih (omega arith) (omega arith) (omega arith)) ∙ sym (next-batch g m l)
       go (no n) ih = finished (suc f) m (omega arith) ∙ sym (finished (suc g) m (omega arith))
 
@@ -155,7 +159,7 @@ module _ {size : ℕ → ℕ} {most top : ℕ} (z : GoodSizes size most top) whe
   pub plan-step : (m : ℕ) → 1 < m → m ≤ top → shufflePlan size m ≡ countdown (size m) m ∷ shufflePlan size (m - size m)
   plan-step zero h t = absurd (not-suc-le-zero h)
   plan-step (suc m) h t =
-      let s = size-some (suc m) h t in
+      let s = size-some (z (suc m) h t) in
       next-batch m (suc m) h
       ∙ ap (λ (p : List (List ℕ)). countdown (size (suc m)) (suc m) ∷ p) (same-fuel m (suc m - size (suc m)) (suc m - size (suc m)) (omega arith) (omega arith) (omega arith))
 
@@ -201,10 +205,6 @@ shuffle-plan64 = shuffle-plan sizes64
 
 -- ---- a list of bounds, cut
 
-both : (a b : Bool) → (a && b) ≡ true → (a ≡ true) × (b ≡ true)
-both true b e = (refl, e)
-both false b e = (e, cc)
-
 one-bound : {most : ℕ} (b : ℕ) → 0 < b → b ≤ most → Rollable most (b ∷ [])
 one-bound b p l =
     let e : product (b ∷ []) ≡ b = unfold product in mul-one b in
@@ -213,7 +213,7 @@ one-bound b p l =
 one-more : (limit most : ℕ) → limit ≤ most → (batch : List ℕ) (b : ℕ) → Rollable most batch → 0 < b → joins limit batch b ≡ true
     → Rollable most (batch ++ b ∷ [])
 one-more limit most l batch b r p e =
-    let t = both (ltb (length batch) 16) (leb (product batch * b) limit) e in
+    let t = and-eq-true-iff (ltb (length batch) 16) (leb (product batch * b) limit) .0 e in
     let n = length-append batch (b ∷ []) in
     record {
       some = omega (arith, n);

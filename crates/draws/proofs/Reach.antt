@@ -2,37 +2,34 @@
 -- when each word lies in its batch's run. No word may be rejected, since fewer words than batches are too few. From this and the one
 -- series of rolls behind an order: which words shuffle the records into which order. Assumes nothing.
 --
---   full-runs              each run has 2^L / product words
---   short-of-words         fewer words than batches are too few
---   rolled-in-range        the rolls of a run are in range
---   words-in-runs          one word for each batch: the run gives the rolls exactly when each word lies in its run
---   gives-done             an outcome gives values exactly when it is done with them
---   shuffle-gives          a shuffle gives an order exactly when each batch got its word and the rolls give the order
---   shuffle-in-runs        one word for each batch: the shuffle gives the order exactly when each word lies in its run
---   shuffle-in-runs64      at 64 bits
+--   rolled-in-range            the rolls of a run are in range
+--   words-in-runs              one word for each batch: the run gives the rolls exactly when each word lies in its run
+--   shuffleRun, shuffleRolls   the run of a shuffle, and its rolls
+--   shuffle-gives              a shuffle gives an order exactly when each batch got its word and the rolls give the order
+--   shuffle-in-runs64          one word for each batch, at 64 bits: the shuffle gives the order exactly when each word lies in its run
 use mathlib.Core.Path.{_≡_, refl, sym, ap, ap₂, _∙_, subst}
 use mathlib.Core.Logic.{_↔_}
 use mathlib.Core.Bool.{Bool, true, false}
 use mathlib.Core.List.{List, [], _∷_, _++_}
-use Prim.Native.Nat.{ℕ, suc, suc-le-suc, zero-le, _+_, _^_, _<_, _≤_}
-use native.Mathlib.Numerals.{add-one}
+use Prim.Native.Nat.{ℕ, _+_, _^_, _<_, _≤_}
 use native.Mathlib.Omega.{arith}
 use lib.Dec.{T, lit≤}
-use lib.ListN.{length, take, drop, getD, length-drop, take-append-drop, drop-of-length-le}
-use lib.Seq.{drop-cons, getD-drop, take-at, drop-at}
+use lib.ListN.{length, take, drop, getD, take-append-drop, drop-of-length-le}
+use lib.Seq.{take-at, drop-at}
 use borrow.Author.Tests.{le-ltb}
 use Rattle.arithmetic.specs.Rolls.{rolls, accepted, inRange}
 use Rattle.arithmetic.specs.Width.{Width, w64, size64}
 use Rattle.arithmetic.proofs.Rolls.{rolls-length, rolls-in-range, in-range-cons}
-use Rattle.arithmetic.proofs.Words.{words-behind, last-fits, run-length}
+use Rattle.arithmetic.proofs.Words.{words-behind}
 use Rattle.rolls.specs.Run.{Taken, Found, found, missing, find, Run, ran, short, after, runFrom, run, trace, rollsOf, suffices}
-use Rattle.rolls.specs.Outcome.{Outcome, refused, done, decide, noWord}
+use Rattle.rolls.specs.Outcome.{done, decide, noWord}
 use Rattle.rolls.proofs.Finding.{find-hit, find-miss, find-within}
-use Rattle.rolls.proofs.Running.{run-hit, run-missing}
+use Rattle.rolls.proofs.Running.{run-hit, run-missing, after-suffices}
+use Rattle.rolls.proofs.Writing.{drop-next}
 use Rattle.draws.specs.Shuffle.{shuffleWith, shufflePlan}
 use Rattle.draws.specs.Order.{rollsInto, AllBelow, Distinct, Reorders}
 use Rattle.draws.specs.Plan.{joined, Rollable, RollablePlan}
-use Rattle.draws.proofs.Runs.{InRuns, FullRuns, Rolled, DoneWith}
+use Rattle.draws.proofs.Runs.{InRuns, Rolled, DoneWith}
 use Rattle.draws.specs.Operations.{shuffle}
 use Rattle.draws.proofs.Plans.{GoodSizes, sizes-more, shuffle-plan, sizes64}
 use Rattle.draws.proofs.Orders.{one-series}
@@ -57,23 +54,10 @@ range-join (b ∷ bs) cs (r ∷ rs) ss i j =
     let h = in-range-cons b bs r rs .0 i in
     in-range-cons b (bs ++ cs) r (rs ++ ss) .1 (h .0, range-join bs cs rs ss (h .1) j)
 
-module _ (L : ℕ) where
-  pub full-runs : (plan : List (List ℕ)) (rs : List ℕ) → RollablePlan (2 ^ L) plan → T (inRange (joined plan) rs) → FullRuns L plan rs
-  unfolding joined
-  full-runs [] rs g i = tt
-  full-runs (bs ∷ plan) rs (b, g) i =
-      let s = range-split bs (joined plan) rs i in
-      let part : List ℕ = take (length bs) rs in
-      (last-fits L bs part (b .positive) (b .fits) (s .0), run-length L bs part (b .positive) (b .fits), full-runs plan (drop (length bs) rs) g (s .1))
-
 -- ---- a run that is not short
 
-suffices-after : (t : Taken) (r : Run) → T (suffices (after t r)) → T (suffices r)
-suffices-after t (ran ts) s = s
-suffices-after t (short k) s = s
-
 module _ (L : ℕ) (words : List ℕ) where
-  pub short-of-words : (plan : List (List ℕ)) (start batch : ℕ) → start ≤ length words → length words < start + length plan
+  short-of-words : (plan : List (List ℕ)) (start batch : ℕ) → start ≤ length words → length words < start + length plan
       → T (suffices (runFrom L plan words start batch)) → ⊥
   short-of-words [] start batch h l s = omega arith
   short-of-words (bs ∷ plan) start batch h l s = go (find (accepted L bs) (drop start words) start) refl (short-of-words plan)
@@ -82,26 +66,9 @@ module _ (L : ℕ) (words : List ℕ) where
           → ((start batch : ℕ) → start ≤ length words → length words < start + length plan → T (suffices (runFrom L plan words start batch)) → ⊥) → ⊥
       go missing e ih = rw (run-missing L bs plan words start batch e) at s
       go (found t) e ih =
-          let b = find-within (accepted L bs) words start h e in
+          let b = find-within (accepted L bs) words start e in
           ih (t .place + 1) (batch + 1) (omega (arith, b .1)) (omega (arith, b .0))
-          (suffices-after t (runFrom L plan words (t .place + 1) (batch + 1)) (rw (run-hit L bs plan words start batch e) at s))
-
--- a word that is found is one of the list
-abbrev FoundBelow : ℕ → Found → Type 0
-FoundBelow top (found t) = t .word < top
-FoundBelow top missing = Unit
-
-find-below : {top : ℕ} (test : ℕ → Bool) (ws : List ℕ) (place : ℕ) → AllBelow top ws → FoundBelow top (find test ws place)
-unfolding find
-find-below test [] place b = tt
-find-below {top} test (w ∷ ws) place b = go (test w) refl (find-below test ws (place + 1) (λ i h. b (suc i) (suc-le-suc h)))
-  where
-    go : (t : Bool) → test w ≡ t → FoundBelow top (find test ws (place + 1)) → FoundBelow top (find test (w ∷ ws) place)
-    go true e ih = rw (e, find) (b 0 (suc-le-suc zero-le))
-    go false e ih = rw (e, find) ih
-
-drop-below : {top : ℕ} (start : ℕ) (ws : List ℕ) → AllBelow top ws → AllBelow top (drop start ws)
-drop-below start ws b i h = rw getD-drop (b (start + i) (omega (arith, rw length-drop at h)))
+          (rw (run-hit L bs plan words start batch e, after-suffices) at s)
 
 abbrev InRangeOf : ℕ → List (List ℕ) → Run → Type 0
 InRangeOf L plan r = T (suffices r) → T (inRange (joined plan) (rollsOf L plan (trace r)))
@@ -123,10 +90,9 @@ rolled-in-range L words w (bs ∷ plan) start batch (b, g) s =
         → ((start batch : ℕ) → InRangeOf L plan (runFrom L plan words start batch)) → InRangeOf L (bs ∷ plan) (runFrom L (bs ∷ plan) words start batch)
     go missing e ih = rw (run-missing L bs plan words start batch e) (λ s. absurd s)
     go (found t) e ih =
+        let f = find-within (accepted L bs) words start e in
         rw (run-hit L bs plan words start batch e)
-        (range-after L bs plan t (runFrom L plan words (t .place + 1) (batch + 1)) b
-        (subst (FoundBelow (2 ^ L)) e (find-below (accepted L bs) (drop start words) start (drop-below start words w)))
-        (ih (t .place + 1) (batch + 1)))
+        (range-after L bs plan t (runFrom L plan words (t .place + 1) (batch + 1)) b (rw (f .2) (w (t .place) (f .1))) (ih (t .place + 1) (batch + 1)))
 
 -- ---- one word for each batch
 
@@ -184,8 +150,7 @@ module _ (L : ℕ) (words : List ℕ) (w : AllBelow (2 ^ L) words) where
       let first = first-batch L words bs plan start batch h rs n in
       let behind = words-behind L bs (take (length bs) rs) (b .positive) (b .fits) (s .0) (getD words start 0) (w start h) in
       let later = from-place plan (drop (length bs) rs) (start + 1) (batch + 1) g (s .1) (omega arith) in
-      let next : drop start words ≡ getD words start 0 ∷ drop (start + 1) words = rw add-one (drop-cons words start 0 h) in
-      subst (λ (l : List ℕ). Rolled L (bs ∷ plan) rs (runFrom L (bs ∷ plan) words start batch) ↔ InRuns L (bs ∷ plan) rs l) (sym next) (
+      subst (λ (l : List ℕ). Rolled L (bs ∷ plan) rs (runFrom L (bs ∷ plan) words start batch) ↔ InRuns L (bs ∷ plan) rs l) (sym (drop-next words start h)) (
         λ r. let (t, e, x) = first .0 r in let (low, high) = behind .0 (t, e) in (low, high, later .0 x),
         λ (low, high, x). let (t, e) = behind .1 (low, high) in first .1 (t, e, later .1 x),
       )
@@ -197,16 +162,11 @@ words-in-runs L plan rs words g i n w = from-place L words w plan rs 0 0 g i (om
 
 -- ---- the shuffle
 
-pub gives-done : (values : List ℕ) (o : Outcome) → DoneWith values o ↔ ((next rejected : ℕ) × (o ≡ done values next rejected))
-gives-done values (refused number batch) = (λ g. absurd g, λ (n, r, e). let z : _≡_ {A = ℕ} 0 1 = cc in absurd (let f : ⊥ = omega arith in f))
-gives-done values (done drawn next rejected) = (λ g. (next, rejected, ap (λ (v : List ℕ). done v next rejected) g), λ (n, r, e). cc)
-
 gives-run : (values ys : List ℕ) (to more : ℕ) (r : Run) → DoneWith ys (decide (noWord r ∷ []) (done values to more)) ↔ (T (suffices r) × (values ≡ ys))
 unfolding decide
 gives-run values ys to more (ran ts) = (λ g. (tt, g), λ g. g .1)
 gives-run values ys to more (short k) = (λ g. absurd g, λ g. absurd (g .0))
 
--- the run of a shuffle, and its rolls
 abbrev pub shuffleRun : Width → List ℕ → ℕ → List ℕ → Run
 shuffleRun W words start xs = run (W .bits) (shufflePlan (W .size) (length xs)) words start
 
@@ -221,7 +181,7 @@ shuffle-gives W words start xs ys h k =
     rw (le-ltb (length xs) 0 (omega arith), le-ltb 16384 (length xs) h, le-ltb (length words) start k)
     (gives-run (shuffleWith (length xs) (shuffleRolls W words start xs) xs) ys _ _ (shuffleRun W words start xs))
 
-pub shuffle-in-runs : (W : Width) → GoodSizes (W .size) (2 ^ W .bits) 16384 → (xs ys words : List ℕ) → length xs ≤ 16384
+shuffle-in-runs : (W : Width) → GoodSizes (W .size) (2 ^ W .bits) 16384 → (xs ys words : List ℕ) → length xs ≤ 16384
     → Distinct xs → Reorders xs ys → length words ≡ length (shufflePlan (W .size) (length xs)) → AllBelow (2 ^ W .bits) words
     → DoneWith ys (shuffle W words 0 xs) ↔ InRuns (W .bits) (shufflePlan (W .size) (length xs)) (rollsInto (length xs) xs ys) words
 shuffle-in-runs W z xs ys words h d o n w =

@@ -1,16 +1,15 @@
 -- The runs of words behind a series of rolls, one run for each batch of a plan, and what comes out. Over a width L. A batch's part
--- of the rolls rs is the next of them, as many as it has bounds.
+-- of the rolls rs is the next of them, as many as it has bounds. Assumes nothing.
 --
 --   InRuns L plan rs words   one word for each batch, and each lies in the run behind its batch's part of the rolls
---   FullRuns L plan rs       each of these runs ends below 2^L, and has 2^L / product words, whatever the rolls
 --   Rolled L plan rs r       of the run r: each batch got its word, and the rolls are rs
 --   DoneWith values outcome  not refused, and these are the values
 use mathlib.Core.Path.{_≡_}
 use mathlib.Core.List.{List, [], _∷_}
-use Prim.Native.Nat.{ℕ, _+_, _-_, _/_, _^_, _<_, _≤_}
+use Prim.Native.Nat.{ℕ, _≤_}
 use lib.Dec.{T}
 use lib.ListN.{length, take, drop}
-use Rattle.arithmetic.specs.Rolls.{product, firstWord, lastWord}
+use Rattle.arithmetic.specs.Rolls.{firstWord, lastWord}
 use Rattle.rolls.specs.Run.{Run, trace, rollsOf, suffices}
 use Rattle.rolls.specs.Outcome.{Outcome, refused, done}
 
@@ -20,13 +19,6 @@ InRuns L [] rs (w ∷ ws) = ⊥
 InRuns L (bs ∷ plan) rs [] = ⊥
 InRuns L (bs ∷ plan) rs (w ∷ ws) =
     (firstWord L bs (take (length bs) rs) ≤ w) × (w ≤ lastWord L bs (take (length bs) rs)) × InRuns L plan (drop (length bs) rs) ws
-
-abbrev pub FullRuns : ℕ → List (List ℕ) → List ℕ → Type 0
-FullRuns L [] rs = Unit
-FullRuns L (bs ∷ plan) rs =
-    (lastWord L bs (take (length bs) rs) < 2 ^ L)
-    × (lastWord L bs (take (length bs) rs) - firstWord L bs (take (length bs) rs) + 1 ≡ 2 ^ L / product bs)
-    × FullRuns L plan (drop (length bs) rs)
 
 abbrev pub Rolled : ℕ → List (List ℕ) → List ℕ → Run → Type 0
 Rolled L plan rs r = T (suffices r) × (rollsOf L plan (trace r) ≡ rs)

@@ -1,78 +1,23 @@
--- The loops of a sample: its bounds laid out, the first records put into the slots, the later ones after them. Assumes nothing.
+-- A sample: the later records after the first, the arrays that are lent in part, and its bounds. Assumes nothing.
 --
---   Counting, count-turn, count-done     from, from + 1, .., as many as the list has places
---   First, first-turn, first-done        the first k records are in the first k slots
---   Later, later-taken, later-passed     the later records, each with its roll
---   no-zero                              no bound of a sample is 0
+--   Later, later-none, later-taken, later-passed,    the loop of `take_later`: the later records, each with its roll
+--     later-done
+--   prefix-count, array-kept, prefix-back,           a local array, its first n places lent
+--     prefix-rolls
+--   slots-drawn                                      the slots in the end
+--   bound-count, bounds-no-zero                      a sample of k from n records has n - k bounds, and none is 0
 use mathlib.Core.Path.{_≡_, refl, sym, ap, ap₂, _∙_}
 use mathlib.Core.Bool.{false, _||_}
-use mathlib.Core.List.{List, [], _∷_, _++_, append-assoc, append-nil}
+use mathlib.Core.List.{List, [], _∷_, _++_, append-nil}
 use Prim.Native.Nat.{ℕ, zero, suc, _+_, _-_, _<_, _≤_}
-use native.Mathlib.Nat.{sub-zero}
-use native.Mathlib.Numerals.{add-one}
 use native.Mathlib.Omega.{arith}
 use lib.ListN.{length, take, drop, set, getD, length-set, take-append-drop, drop-of-length-le}
-use lib.Seq.{take-suc, take-all, take-at, drop-at, drop-cons, take-set-lt, drop-set-lt, length-take-le, length-front}
+use lib.Seq.{take-at, drop-at, take-set-lt, drop-set-lt, length-take-le, length-front}
 use borrow.Author.Tests.{lt-ltb, le-ltb, ne-eqb}
 use Rattle.arithmetic.specs.Rolls.{hasZero}
-use Rattle.rolls.proofs.Writing.{stored-front, stored-back}
+use Rattle.rolls.proofs.Writing.{drop-next}
 use Rattle.draws.specs.Sample.{countup, reservoir}
 use Rattle.draws.proofs.Plans.{countup-length}
-
--- ---- the bounds
-
-pub no-zero : (s i : ℕ) → 0 < i → hasZero (countup s i) ≡ false
-unfolding countup hasZero
-no-zero zero i h = refl
-no-zero (suc s) i h = ap₂ _||_ (ne-eqb i 0 (λ e. omega arith)) (no-zero s (i + 1) (omega arith))
-
-abbrev pub Counting : List ℕ → ℕ → List ℕ → ℕ → Type 0
-Counting bs₀ from bs i =
-    (i ≤ length bs₀) × (length bs ≡ length bs₀) × (take i bs ++ countup (length bs₀ - i) (from + i) ≡ countup (length bs₀) from)
-
-pub count-none : (bs : List ℕ) (from : ℕ) → Counting bs from bs 0
-count-none bs from = let e : from + 0 ≡ from = omega arith in (omega arith, refl, rw (sub-zero, e))
-
-module _ (bs₀ : List ℕ) (from : ℕ) (bs : List ℕ) (i : ℕ) (v : Counting bs₀ from bs i) where
-  pub count-turn : i < length bs₀ → Counting bs₀ from (set bs i (from + i)) (i + 1)
-  unfolding countup
-  count-turn h =
-      let n : ℕ = length bs₀ in
-      let e : n - i ≡ suc (n - (i + 1)) = omega arith in
-      let f : from + i + 1 ≡ from + (i + 1) = omega arith in (
-        omega arith,
-        length-set bs i (from + i) ∙ v .1,
-        rw (stored-front bs i (from + i) (omega arith), append-assoc, ← f) (rw e at (v .2)),
-      )
-
-  pub count-done : length bs₀ ≤ i → bs ≡ countup (length bs₀) from
-  unfolding countup
-  count-done h =
-      let e : length bs₀ - i ≡ 0 = omega arith in
-      sym (take-all i bs (omega arith)) ∙ sym (append-nil (take i bs)) ∙ (rw e at (v .2))
-
--- ---- the first k records
-
-abbrev pub First : List ℕ → ℕ → List ℕ → List ℕ → ℕ → Type 0
-First xs k slots₀ slots i = (i ≤ k) × (length slots ≡ length slots₀) × (take i slots ≡ take i xs) × (drop i slots ≡ drop i slots₀)
-
-pub first-none : (xs : List ℕ) (k : ℕ) (slots : List ℕ) → First xs k slots slots 0
-first-none xs k slots = (omega arith, refl, refl, refl)
-
-module _ (xs : List ℕ) (k : ℕ) (slots₀ slots : List ℕ) (i : ℕ) (v : First xs k slots₀ slots i) where
-  pub first-turn : i < k → k ≤ length xs → k ≤ length slots₀ → First xs k slots₀ (set slots i (getD xs i 0)) (i + 1)
-  first-turn h l m = (
-    omega arith,
-    length-set slots i (getD xs i 0) ∙ v .1,
-    stored-front slots i (getD xs i 0) (omega arith) ∙ ap (λ (s : List ℕ). s ++ getD xs i 0 ∷ []) (v .2)
-        ∙ sym (ap (λ (n : ℕ). take n xs) (add-one i) ∙ take-suc xs i 0 (omega arith)),
-    stored-back slots slots₀ i (getD xs i 0) (v .3),
-  )
-
-  pub first-done : k ≤ i → slots ≡ take k xs ++ drop k slots₀
-  first-done h =
-      let e : i ≡ k = omega arith in
-      sym (take-append-drop i slots) ∙ rw (v .2, v .3, e)
 
 -- ---- the later records
 
@@ -104,18 +49,15 @@ module _ (xs : List ℕ) (k : ℕ) (js slots₀ slots : List ℕ) (i : ℕ) (v :
   module _ (h : i < length js) (n : k + length js ≡ length xs) (l : k ≤ length slots₀) where
     records : drop (k + i) xs ≡ getD xs (k + i) 0 ∷ drop (k + (i + 1)) xs
     records =
-        let e : suc (k + i) ≡ k + (i + 1) = omega arith in
-        drop-cons xs (k + i) 0 (omega arith) ∙ ap (λ (m : ℕ). getD xs (k + i) 0 ∷ drop m xs) e
-
-    series : drop i js ≡ getD js i 0 ∷ drop (i + 1) js
-    series = rw (add-one i) (drop-cons js i 0 h)
+        let e : k + i + 1 ≡ k + (i + 1) = omega arith in
+        drop-next xs (k + i) (omega arith) ∙ ap (λ (m : ℕ). getD xs (k + i) 0 ∷ drop m xs) e
 
     slot-count : length (take k slots) ≡ k
     slot-count = length-take-le k slots (omega arith)
 
     turn : reservoir (take k slots) (getD xs (k + i) 0 ∷ drop (k + (i + 1)) xs) (getD js i 0 ∷ drop (i + 1) js)
         ≡ reservoir (take k slots₀) (drop k xs) js
-    turn = rw (records, series) at (v .3)
+    turn = rw (records, drop-next js i h) at (v .3)
 
     pub later-taken : getD js i 0 < k → Later xs k js slots₀ (set slots (getD js i 0) (getD xs (k + i) 0)) (i + 1)
     later-taken t = (
@@ -154,9 +96,9 @@ module _ (array last : List ℕ) (n : ℕ) (h : n ≤ length array) where
 
 -- ---- the slots in the end
 
-pub drawn : (xs slots₀ slots : List ℕ) (k : ℕ) (js out : List ℕ) → k ≤ length xs → slots ≡ take k xs ++ drop k slots₀
+pub slots-drawn : (xs slots₀ slots : List ℕ) (k : ℕ) (js out : List ℕ) → k ≤ length xs → slots ≡ take k xs ++ drop k slots₀
     → out ≡ reservoir (take k slots) (drop k xs) js ++ drop k slots → out ≡ reservoir (take k xs) (drop k xs) js ++ drop k slots₀
-drawn xs slots₀ slots k js out h e f =
+slots-drawn xs slots₀ slots k js out h e f =
     let n : length (take k xs) ≡ k = length-take-le k xs h in
     f ∙ ap₂ (λ (a b : List ℕ). reservoir a (drop k xs) js ++ b)
     (ap (take k) e ∙ take-at (take k xs) (drop k slots₀) k n) (ap (drop k) e ∙ drop-at (take k xs) (drop k slots₀) k n)
@@ -165,6 +107,11 @@ drawn xs slots₀ slots k js out h e f =
 
 pub bound-count : (bs : List ℕ) (n k : ℕ) → k ≤ n → bs ≡ countup (n - k) (k + 1) → k + length bs ≡ n
 bound-count bs n k h e = omega (arith, ap length e ∙ countup-length (n - k) (k + 1))
+
+no-zero : (s i : ℕ) → 0 < i → hasZero (countup s i) ≡ false
+unfolding countup hasZero
+no-zero zero i h = refl
+no-zero (suc s) i h = ap₂ _||_ (ne-eqb i 0 (λ e. omega arith)) (no-zero s (i + 1) (omega arith))
 
 pub bounds-no-zero : (bs : List ℕ) (n k : ℕ) → bs ≡ countup (n - k) (k + 1) → hasZero bs ≡ false
 bounds-no-zero bs n k e = ap hasZero e ∙ no-zero (n - k) (k + 1) (omega arith)

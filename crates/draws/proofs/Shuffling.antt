@@ -1,9 +1,12 @@
--- The two passes of a shuffle, at 64 bits: whether the words suffice, and then the records placed batch by batch. Assumes nothing.
+-- The batches of a shuffle as the code has them, and the records placed batch by batch, at 64 bits. Assumes nothing.
 --
---   shuffle-append                       one series of rolls behind another
---   batch-find, batch-fits, batch-less   the batch with m records still to place, as the code has it
---   Supplying, supply-hit, ..            the loop of `supply_shuffle`
---   Shuffling, shuffle-turn, ..          the loop of `place_all`
+--   plan64                           the batches of a shuffle
+--   batch-less, batch-fits           the batch with m records still to place: its size, its product
+--   batch-plan, batch-find           the plan goes on behind it; the search for its word
+--   Shuffling                        with m records still to place: the list as it stands, and the rest of the run
+--   shuffling-none, shuffling-turn   before the first turn, and one turn
+--   shuffling-never                  no word is missing
+--   shuffling-done                   with one record or none still to place the list is shuffled
 use mathlib.Core.Path.{_≡_, refl, sym, ap, ap₂, _∙_}
 use mathlib.Core.Bool.{true}
 use mathlib.Core.List.{List, [], _∷_, _++_}
@@ -15,17 +18,16 @@ use lib.ListN.{length, drop}
 use Rattle.arithmetic.specs.Rolls.{rolls, product, threshold, accepted}
 use Rattle.arithmetic.specs.Width.{size64}
 use Rattle.arithmetic.proofs.Rolls.{rolls-length}
-use Rattle.rolls.specs.Run.{find, Run, runFrom, run, rollsOf, next, rejected, suffices}
-use Rattle.rolls.specs.Inner.{passes, searched, supplied}
+use Rattle.rolls.specs.Run.{find, Run, runFrom, run, rollsOf, suffices}
+use Rattle.rolls.specs.Inner.{passes, searched}
 use Rattle.rolls.specs.declared.search.Search.the-variants.{Hit, Missing}
-use Rattle.rolls.specs.declared.supply.Supply.the-variants.{Enough, Short}
 use Rattle.rolls.proofs.Finding.{find-batch}
-use Rattle.rolls.proofs.Running.{finish, finish-none, finish-hit, finish-missing, rolledBy, hit-suffices, hit-rolled, hit-passed, hit-within, never-missing}
+use Rattle.rolls.proofs.Running.{rolledBy, hit-suffices, hit-rolled, hit-within, never-missing}
 use Rattle.draws.specs.Shuffle.{exchange, shuffleWith, countdown, shufflePlan}
-use Rattle.draws.proofs.Plans.{GoodSize, countdown-length, sizes64, plan-end, plan-step}
+use Rattle.draws.proofs.Plans.{GoodSize, size-some, countdown-length, sizes64, plan-end, plan-step}
 use Rattle.draws.proofs.Orders.{length-shuffle}
 
-pub shuffle-append : (m : ℕ) (rs ss xs : List ℕ) → shuffleWith m (rs ++ ss) xs ≡ shuffleWith (m - length rs) ss (shuffleWith m rs xs)
+shuffle-append : (m : ℕ) (rs ss xs : List ℕ) → shuffleWith m (rs ++ ss) xs ≡ shuffleWith (m - length rs) ss (shuffleWith m rs xs)
 unfolding shuffleWith
 shuffle-append m [] ss xs = rw sub-zero
 shuffle-append m (r ∷ rs) ss xs =
@@ -42,7 +44,7 @@ module _ (m s : ℕ) (h : 1 < m) (k : m ≤ 16384) (e : s ≡ size64 m) where
   good = sizes64 m h k
 
   pub batch-less : (0 < s) × (s < m)
-  batch-less = rw e (rw countdown-length at (good .rollable .some), good .less)
+  batch-less = rw e (size-some good, good .less)
 
   pub batch-fits : (0 < product (countdown s m)) × (product (countdown s m) < 2 ^ 64)
   batch-fits = rw e (good .rollable .positive, lt-of-le-of-lt (good .rollable .fits) (lit< tt))
@@ -56,51 +58,9 @@ module _ (m s : ℕ) (h : 1 < m) (k : m ≤ 16384) (e : s ≡ size64 m) where
   batch-find b t f g words at =
       find-batch (countdown s m) b t (rw countdown-length (batch-less .0)) (f ∙ sym (mod-eq-of-lt (batch-fits .1))) (g ∙ ap (threshold 64) f) words at
 
--- ---- whether the words suffice
-
-abbrev pub Supplying : List ℕ → ℕ → ℕ → ℕ → ℕ → ℕ → ℕ → Type 0
-Supplying words start n to r batch m =
-    (to ≤ length words) × (batch + m ≤ n) × (r ≤ to)
-    × (finish to r (runFrom 64 (plan64 m) words to batch) ≡ supplied start (run 64 (plan64 n) words start))
-
-pub supply-none : (words : List ℕ) (start n : ℕ) → start ≤ length words → Supplying words start n start 0 0 n
-supply-none words start n h = (h, omega arith, omega arith, finish-none start (run 64 (plan64 n) words start))
-
-module _ (words : List ℕ) (start n : ℕ) (top : n ≤ 16384) (to r batch m : ℕ) (v : Supplying words start n to r batch m) where
-  module _ (h : 1 < m) (s : ℕ) (e : s ≡ size64 m) (b t : ℕ) (f : b ≡ product (countdown s m)) (g : t ≡ threshold 64 b) where
-    few : m ≤ 16384
-    few = omega (arith, v .1, top)
-
-    same : find (passes b t) (drop to words) to ≡ find (accepted 64 (countdown s m)) (drop to words) to
-    same = batch-find m s h few e b t f g (drop to words) to
-
-    pub supply-hit : (w place more : ℕ) → searched to (find (passes b t) (drop to words) to) ≡ Hit w place more
-        → Supplying words start n (place + 1) (r + more) (batch + 1) (m - s)
-    supply-hit w place more q =
-        let p = hit-within 64 (countdown s m) (plan64 (m - s)) words to batch _ same w place more q (v .0) in
-        let o = hit-passed 64 (countdown s m) (plan64 (m - s)) words to batch _ same w place more q in
-        let l = batch-less m s h few e in (
-          omega (arith, p),
-          omega (arith, l, v .1),
-          omega (arith, p, o, v .2),
-          sym (ap (λ (plan : List (List ℕ)). finish to r (runFrom 64 plan words to batch)) (batch-plan m s h few e)
-              ∙ finish-hit 64 (countdown s m) (plan64 (m - s)) words to batch _ same w place more q r)
-              ∙ v .3,
-        )
-
-    pub supply-short : searched to (find (passes b t) (drop to words) to) ≡ Missing → Short batch ≡ supplied start (run 64 (plan64 n) words start)
-    supply-short q =
-        sym (ap (λ (plan : List (List ℕ)). finish to r (runFrom 64 plan words to batch)) (batch-plan m s h few e)
-        ∙ finish-missing 64 (countdown s m) (plan64 (m - s)) words to batch _ same q r)
-        ∙ v .3
-
-  pub supply-done : m ≤ 1 → Enough to r ≡ supplied start (run 64 (plan64 n) words start)
-  unfolding runFrom next rejected
-  supply-done h =
-      ap (Enough to) (omega arith) ∙ sym (ap (λ (plan : List (List ℕ)). finish to r (runFrom 64 plan words to batch)) (plan-end sizes64 m h)) ∙ v .3
-
 -- ---- the records placed
 
+-- with m records still to place the rest of the run suffices, and its rolls bring the list as it stands to what the whole shuffle gives
 abbrev pub Shuffling : List ℕ → ℕ → List ℕ → List ℕ → ℕ → ℕ → Type 0
 Shuffling words start xs₀ xs to m =
     (to ≤ length words) × (m ≤ length xs₀) × (length xs ≡ length xs₀)
@@ -108,9 +68,9 @@ Shuffling words start xs₀ xs to m =
     × (shuffleWith m (rolledBy 64 (plan64 m) (runFrom 64 (plan64 m) words to batch)) xs
     ≡ shuffleWith (length xs₀) (rolledBy 64 (plan64 (length xs₀)) (run 64 (plan64 (length xs₀)) words start)) xs₀))
 
-pub shuffle-none : (words : List ℕ) (start : ℕ) (xs : List ℕ) → start ≤ length words → suffices (run 64 (plan64 (length xs)) words start) ≡ true
+pub shuffling-none : (words : List ℕ) (start : ℕ) (xs : List ℕ) → start ≤ length words → suffices (run 64 (plan64 (length xs)) words start) ≡ true
     → Shuffling words start xs xs start (length xs)
-shuffle-none words start xs h e = (h, omega arith, refl, (0, e, refl))
+shuffling-none words start xs h e = (h, omega arith, refl, (0, e, refl))
 
 module _ (words : List ℕ) (start : ℕ) (xs₀ : List ℕ) (top : length xs₀ ≤ 16384) (xs : List ℕ) (to m : ℕ) (v : Shuffling words start xs₀ xs to m) where
   module _ (h : 1 < m) (s : ℕ) (e : s ≡ size64 m) (b t : ℕ) (f : b ≡ product (countdown s m)) (g : t ≡ threshold 64 b) where
@@ -123,17 +83,17 @@ module _ (words : List ℕ) (start : ℕ) (xs₀ : List ℕ) (top : length xs₀
     enough : suffices (runFrom 64 (countdown s m ∷ plan64 (m - s)) words to (v .3 .0)) ≡ true
     enough = rw (batch-plan m s h small e) at (v .3 .1)
 
-    pub shuffle-never : searched to (find (passes b t) (drop to words) to) ≡ Missing → ⊥
-    shuffle-never q = never-missing 64 (countdown s m) (plan64 (m - s)) words to (v .3 .0) _ found-by q enough
+    pub shuffling-never : searched to (find (passes b t) (drop to words) to) ≡ Missing → ⊥
+    shuffling-never q = never-missing 64 (countdown s m) (plan64 (m - s)) words to (v .3 .0) _ found-by q enough
 
-    pub shuffle-turn : (w place more : ℕ) → searched to (find (passes b t) (drop to words) to) ≡ Hit w place more
+    pub shuffling-turn : (w place more : ℕ) → searched to (find (passes b t) (drop to words) to) ≡ Hit w place more
         → (ys : List ℕ) → ys ≡ shuffleWith m (rolls 64 (countdown s m) w) xs
         → Shuffling words start xs₀ ys (place + 1) (m - s)
-    shuffle-turn w place more q ys d =
+    shuffling-turn w place more q ys d =
         let rs : List ℕ = rolls 64 (countdown s m) w in
         let on : Run = runFrom 64 (plan64 (m - s)) words (place + 1) (v .3 .0 + 1) in
         let len : length rs ≡ s = rolls-length 64 (countdown s m) w ∙ countdown-length s m in (
-          omega (arith, hit-within 64 (countdown s m) (plan64 (m - s)) words to (v .3 .0) _ found-by w place more q (v .0)),
+          omega (arith, hit-within 64 (countdown s m) (plan64 (m - s)) words to (v .3 .0) _ found-by w place more q),
           omega (arith, v .1),
           ap length d ∙ length-shuffle m rs xs ∙ v .2,
           (
@@ -146,8 +106,8 @@ module _ (words : List ℕ) (start : ℕ) (xs₀ : List ℕ) (top : length xs₀
           ),
         )
 
-  pub shuffle-done : m ≤ 1
+  pub shuffling-done : m ≤ 1
       → xs ≡ shuffleWith (length xs₀) (rolledBy 64 (plan64 (length xs₀)) (run 64 (plan64 (length xs₀)) words start)) xs₀
   unfolding runFrom rollsOf shuffleWith
-  shuffle-done h =
+  shuffling-done h =
       sym (ap (λ (plan : List (List ℕ)). shuffleWith m (rolledBy 64 plan (runFrom 64 plan words to (v .3 .0))) xs) (plan-end sizes64 m h)) ∙ v .3 .2

@@ -1,32 +1,30 @@
 -- Cutting a list of bounds into batches, over every limit. Assumes nothing.
 --
---   part bs at end                  the bounds from a place up to another
---   Begun, begun                    how the first batch of a list stands in it
---   Cutting, cut-first, cut-turn, cut-found    the loop that finds the end of a batch
+--   part bs at end                        the bounds from a place up to another
+--   Begun, begun                          how the first batch of a list stands in it
+--   Cutting, cut-first, cut-turn          the loop that finds the end of a batch
+--   cut-list-ends, cut-full, cut-passes   the batch ends where the list does, or it has sixteen bounds, or its product passes the limit
+--   cut-found                             what is answered then
 use mathlib.Core.Path.{_≡_, refl, sym, ap, ap₂, _∙_, subst}
-use mathlib.Core.Bool.{Bool, true, false, _&&_}
+use mathlib.Core.Bool.{Bool, true, false, _&&_, and-false}
 use mathlib.Core.List.{List, [], _∷_, _++_, append-nil}
 use Prim.Native.Nat.{ℕ, suc, _+_, _-_, _*_, _^_, _<_, _≤_}
 use native.Mathlib.Nat.{mul-one, not-suc-le-zero}
-use native.Mathlib.Numerals.{add-one}
 use native.Mathlib.Omega.{arith}
 use lib.Dec.{leb, ltb}
 use lib.ListN.{length, take, drop, getD, length-append, length-drop, drop-of-length-le}
-use lib.Seq.{drop-cons, take-suc, length-take-le, getD-drop, append-snoc}
+use lib.Seq.{take-suc, length-take-le, getD-drop, append-snoc}
 use borrow.Author.Tests.{lt-ltb, le-ltb, ltb-true}
 use Rattle.arithmetic.specs.Rolls.{product}
-use Rattle.arithmetic.proofs.Limits.{product-snoc}
+use Rattle.arithmetic.proofs.Limits.{clash, product-snoc}
 use Rattle.rolls.specs.Cut.{joins, cutFrom, cut}
 use Rattle.rolls.specs.Inner.{cutAt, begins}
+use Rattle.rolls.proofs.Writing.{drop-next}
 
 abbrev pub part : List ℕ → ℕ → ℕ → List ℕ
 part bs at end = take (end - at) (drop at bs)
 
 -- ---- one step
-
-and-false : (s : Bool) → (s && false) ≡ false
-and-false true = refl
-and-false false = refl
 
 cut-more : (limit : ℕ) (batch : List ℕ) (b : ℕ) (bs : List ℕ) → joins limit batch b ≡ true
     → cutFrom limit batch (b ∷ bs) ≡ cutFrom limit (batch ++ b ∷ []) bs
@@ -55,9 +53,6 @@ record Grown (limit : ℕ) (batch bs : List ℕ) : Type 0 where
   within : more ≤ length bs
   few : length batch + more ≤ 16
 
-snoc-length : (batch : List ℕ) (b : ℕ) → length (batch ++ b ∷ []) ≡ length batch + 1
-snoc-length batch b = length-append batch (b ∷ [])
-
 grown : (limit : ℕ) (batch bs : List ℕ) → length batch ≤ 16 → Grown limit batch bs
 unfolding cutFrom cut
 grown limit batch [] h = record { more = 0; rest = ap (λ (l : List ℕ). l ∷ []) (sym (append-nil batch)); within = omega arith; few = omega arith }
@@ -68,16 +63,17 @@ grown limit batch (b ∷ bs) h = go (joins limit batch b) refl (grown limit (bat
       where
         lemma : (t : Bool) → ltb (length batch) 16 ≡ t → (t && leb (product batch * b) limit) ≡ true → length batch < 16
         lemma true f e = ltb-true (length batch) 16 f
-        lemma false f e = absurd (let z : _≡_ {A = ℕ} 0 1 = cc in let n : ⊥ = omega arith in n)
+        lemma false f e = clash cc
 
     go : (t : Bool) → joins limit batch b ≡ t → (length (batch ++ b ∷ []) ≤ 16 → Grown limit (batch ++ b ∷ []) bs) → Grown limit batch (b ∷ bs)
     go true e ih =
-        let g = ih (rw snoc-length (omega (arith, room e))) in
+        let n = length-append batch (b ∷ []) in
+        let g = ih (omega (arith, n, room e)) in
         record {
           more = suc (g .more);
           rest = cut-more limit batch b bs e ∙ g .rest ∙ ap (λ (l : List ℕ). l ∷ cut limit (drop (g .more) bs)) (append-snoc batch b (take (g .more) bs));
           within = omega (arith, g .within);
-          few = omega (arith, snoc-length batch b, g .few);
+          few = omega (arith, n, g .few);
         }
     go false e ih = record { more = 0; rest = cut-here limit batch b bs e ∙ ap (λ (l : List ℕ). l ∷ cut limit (b ∷ bs)) (sym (append-nil batch)); within = omega arith; few = omega arith }
 
@@ -98,6 +94,7 @@ begun limit (b ∷ bs) h =
 
 -- ---- the loop that finds the end of a batch
 
+-- the bounds from `at` up to `end` have joined one batch, p is their product, and the cut goes on with the bounds behind them
 abbrev pub Cutting : ℕ → List ℕ → ℕ → ℕ → ℕ → Type 0
 Cutting limit bs at p end =
     (at < end) × (end ≤ length bs) × (end - at ≤ 16) × (p ≡ product (part bs at end))
@@ -116,13 +113,9 @@ pub cut-first : (limit : ℕ) (bs : List ℕ) (at : ℕ) → at < length bs → 
 unfolding cut product
 cut-first limit bs at h =
     let e : at + 1 - at ≡ 1 = omega arith in
-    let f : drop at bs ≡ getD bs at 0 ∷ drop (at + 1) bs = rw (add-one at) (drop-cons bs at 0 h) in
-    (omega arith, omega arith, omega arith, rw (e, f) (sym (mul-one _)), rw (e, f))
+    (omega arith, omega arith, omega arith, rw (e, drop-next bs at h) (sym (mul-one _)), rw (e, drop-next bs at h))
 
 module _ (limit : ℕ) (bs : List ℕ) (at p end : ℕ) (v : Cutting limit bs at p end) where
-  step : end < length bs → drop end bs ≡ getD bs end 0 ∷ drop (end + 1) bs
-  step h = rw (add-one end) (drop-cons bs end 0 h)
-
   len : length (part bs at end) ≡ end - at
   len = part-length bs at end (v .1)
 
@@ -138,17 +131,16 @@ module _ (limit : ℕ) (bs : List ℕ) (at p end : ℕ) (v : Cutting limit bs at
         omega arith,
         sym (ap product more ∙ product-snoc (part bs at end) (getD bs end 0) ∙ ap (λ (x : ℕ). x * getD bs end 0) (sym (v .3))),
         ap (λ (l : List ℕ). cutFrom limit l (drop (end + 1) bs)) more
-            ∙ sym (ap (cutFrom limit (part bs at end)) (step h) ∙ cut-more limit (part bs at end) (getD bs end 0) (drop (end + 1) bs) (joined true true (lt-ltb (length (part bs at end)) 16 (rw len k)) e))
+            ∙ sym (ap (cutFrom limit (part bs at end)) (drop-next bs end h) ∙ cut-more limit (part bs at end) (getD bs end 0) (drop (end + 1) bs) (joined true true (lt-ltb (length (part bs at end)) 16 (rw len k)) e))
             ∙ v .4,
       )
 
-  -- the batch ends where the list does, or it has sixteen bounds, or its product passes the limit
   pub cut-list-ends : length bs ≤ end → part bs at end ≡ begins (cut limit (drop at bs))
   unfolding cutFrom
   cut-list-ends h = ap begins (sym (ap (cutFrom limit (part bs at end)) (drop-of-length-le bs h)) ∙ v .4)
 
   no-more : end < length bs → joins limit (part bs at end) (getD bs end 0) ≡ false → part bs at end ≡ begins (cut limit (drop at bs))
-  no-more h e = ap begins (sym (ap (cutFrom limit (part bs at end)) (step h) ∙ cut-here limit (part bs at end) (getD bs end 0) (drop (end + 1) bs) e) ∙ v .4)
+  no-more h e = ap begins (sym (ap (cutFrom limit (part bs at end)) (drop-next bs end h) ∙ cut-here limit (part bs at end) (getD bs end 0) (drop (end + 1) bs) e) ∙ v .4)
 
   pub cut-full : end < length bs → 16 ≤ end - at → part bs at end ≡ begins (cut limit (drop at bs))
   cut-full h k = no-more h (joined false _ (le-ltb (length (part bs at end)) 16 (rw len k)) refl)

@@ -1,22 +1,25 @@
 -- Which refusal is given. Assumes nothing.
 --
---   decide-here, decide-past, decide-none    a refusal that applies is given; one that does not is passed over
---   decide-under                             two lists of refusals that agree where their head does not apply
---   in-count, below-count, above-count       a count in its range, or out of it
---   supplied-enough                          what the answer of a dry run says of the run
---   no-start, no-words, words-done           numbers 9 and 10, of an operation that uses words; by the run
---   words-short, words-drawn                 and by the answer of a dry run
---   refused-seen, done-seen                  what the caller sees
+--   decide-here, decide-past, decide-none   a refusal that applies is given; one that does not is passed over
+--   decide-under                            two lists of refusals that agree where their head does not apply
+--   in-count, below-count, above-count      a count in its range, or out of it
+--   OfBatch, of-batch                       numbers 2, 4 and 5, of an operation on the bounds of one batch
+--   Known, supplied-enough                  what is known of a run where the dry run found the words enough
+--   no-start                                number 9, of an operation that uses words
+--   no-words, words-done                    number 10, or none, by the run
+--   words-short, words-drawn                number 10, or none, by the answer of the dry run
+--   refused-seen, done-seen                 what the caller sees
 use mathlib.Core.Path.{_≡_, refl, sym, ap, ap₂, _∙_}
-use mathlib.Core.Bool.{Bool, true, false, _||_}
+use mathlib.Core.Bool.{Bool, true, false, _||_, or-true}
 use mathlib.Core.List.{List, [], _∷_, _++_}
-use Prim.Native.Nat.{ℕ, _<_, _≤_}
-use native.Mathlib.Omega.{arith}
+use Prim.Native.Nat.{ℕ, _^_, _<_, _≤_}
 use lib.Dec.{ltb}
 use lib.ListN.{length, drop}
 use borrow.Author.Tests.{lt-ltb, le-ltb}
+use Rattle.arithmetic.specs.Rolls.{product, hasZero}
+use Rattle.arithmetic.proofs.Limits.{clash}
 use Rattle.rolls.specs.Run.{Run, ran, short, suffices, run, trace, rollsOf, next, rejected}
-use Rattle.rolls.specs.Outcome.{Outcome, refused, done, Refusal, noWord, decide, outside, ofWords, fromRun, shown, left}
+use Rattle.rolls.specs.Outcome.{Outcome, refused, done, Refusal, no, noWord, decide, outside, ofWords, fromRun, shown, left}
 use Rattle.rolls.specs.declared.answer.Answer.{Answer}
 use Rattle.rolls.specs.Inner.{supplied}
 use Rattle.rolls.specs.declared.supply.Supply.the-variants.{Enough, Short}
@@ -49,15 +52,30 @@ in-count low high n h k = ap₂ _||_ (le-ltb n low h) (le-ltb high n k)
 pub below-count : (low high n : ℕ) → n < low → outside low high n ≡ true
 below-count low high n h = ap (λ (b : Bool). b || ltb high n) (lt-ltb n low h)
 
-or-true : (b : Bool) → (b || true) ≡ true
-or-true true = refl
-or-true false = refl
-
 pub above-count : (low high n : ℕ) → high < n → outside low high n ≡ true
 above-count low high n h = ap (λ (b : Bool). ltb n low || b) (lt-ltb high n h) ∙ or-true (ltb n low)
 
+-- ---- numbers 2, 4 and 5
+
+-- what comes of an operation on the bounds of one batch, by its first three refusals; past them it is as the rest has it
+pub record OfBatch (bs : List ℕ) (o rest : Outcome) : Type 0 where
+  pub count : outside 1 16 (length bs) ≡ true → o ≡ refused 2 0
+  pub zeros : outside 1 16 (length bs) ≡ false → hasZero bs ≡ true → o ≡ refused 4 0
+  pub large : outside 1 16 (length bs) ≡ false → hasZero bs ≡ false → ltb (2 ^ 64) (product bs) ≡ true → o ≡ refused 5 0
+  pub passed : outside 1 16 (length bs) ≡ false → hasZero bs ≡ false → ltb (2 ^ 64) (product bs) ≡ false → o ≡ rest
+
+pub of-batch : (bs : List ℕ) (rs : List Refusal) (o : Outcome)
+    → OfBatch bs (decide (no 2 (outside 1 16 (length bs)) ∷ no 4 (hasZero bs) ∷ no 5 (ltb (2 ^ 64) (product bs)) ∷ rs) o) (decide rs o)
+of-batch bs rs o = record {
+  count = λ e. decide-here _ _ _ e;
+  zeros = λ c e. decide-past _ _ _ c ∙ decide-here _ _ _ e;
+  large = λ c z e. decide-past _ _ _ c ∙ decide-past _ _ _ z ∙ decide-here _ _ _ e;
+  passed = λ c z f. decide-past _ _ _ c ∙ decide-past _ _ _ z ∙ decide-past _ _ _ f;
+}
+
 -- ---- the words
 
+-- a run where each batch got its word: the place after the last one, and how many were rejected
 pub record Known (start : ℕ) (r : Run) (to more : ℕ) : Type 0 where
   pub enough : suffices r ≡ true
   pub place : next start (trace r) ≡ to
@@ -65,10 +83,10 @@ pub record Known (start : ℕ) (r : Run) (to more : ℕ) : Type 0 where
 
 pub supplied-enough : (start : ℕ) (r : Run) (to more : ℕ) → supplied start r ≡ Enough to more → Known start r to more
 supplied-enough start (ran ts) to more e = record { enough = refl; place = cc; passed = cc }
-supplied-enough start (short k) to more e = absurd (let z : _≡_ {A = ℕ} 0 1 = cc in let n : ⊥ = omega arith in n)
+supplied-enough start (short k) to more e = clash cc
 
 supplied-short : (start : ℕ) (r : Run) (k : ℕ) → supplied start r ≡ Short k → r ≡ short k
-supplied-short start (ran ts) k e = absurd (let z : _≡_ {A = ℕ} 0 1 = cc in let n : ⊥ = omega arith in n)
+supplied-short start (ran ts) k e = clash cc
 supplied-short start (short j) k e = ap short (cc)
 
 module _ (L : ℕ) (plan : List (List ℕ)) (words : List ℕ) (start : ℕ) (o : Outcome) where

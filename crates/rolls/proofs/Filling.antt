@@ -1,4 +1,10 @@
 -- Writing the rolls of a list of bounds, batch after batch, where the words suffice: the loop of `write_list`. Assumes nothing.
+--
+--   Filling                the rolls of the bounds before a place are written
+--   fill-none, fill-turn   before the first turn, and one turn
+--   fill-never             no word is missing
+--   fill-done              the rolls of the whole list are written
+--   list-length            a list has as many rolls as bounds
 use mathlib.Core.Path.{_≡_, refl, sym, ap, ap₂, _∙_}
 use mathlib.Core.Bool.{Bool, true, false}
 use mathlib.Core.List.{List, [], _∷_, _++_, append-assoc, append-nil}
@@ -21,8 +27,8 @@ use Rattle.rolls.proofs.Writing.{wrote-front, wrote-back, wrote-length,
 -- ---- the loop
 
 -- what is left of the run, from the place to on, numbered from batch
-abbrev left : List ℕ → List ℕ → ℕ → ℕ → ℕ → Run
-left words bs at to batch = runFrom 64 (cut (2 ^ 56) (drop at bs)) words to batch
+abbrev runLeft : List ℕ → List ℕ → ℕ → ℕ → ℕ → Run
+runLeft words bs at to batch = runFrom 64 (cut (2 ^ 56) (drop at bs)) words to batch
 
 abbrev whole : List ℕ → List ℕ → ℕ → List ℕ
 whole words bs start = rolledBy 64 (cut (2 ^ 56) bs) (run 64 (cut (2 ^ 56) bs) words start)
@@ -31,8 +37,8 @@ whole words bs start = rolledBy 64 (cut (2 ^ 56) bs) (run 64 (cut (2 ^ 56) bs) w
 abbrev pub Filling : List ℕ → ℕ → List ℕ → List ℕ → List ℕ → ℕ → ℕ → Type 0
 Filling words start bs out₀ out to at =
     (to ≤ length words) × (at ≤ length bs) × (length out ≡ length out₀) × (drop at out ≡ drop at out₀)
-    × ((batch : ℕ) × (suffices (left words bs at to batch) ≡ true)
-    × (take at out ++ rolledBy 64 (cut (2 ^ 56) (drop at bs)) (left words bs at to batch) ≡ whole words bs start))
+    × ((batch : ℕ) × (suffices (runLeft words bs at to batch) ≡ true)
+    × (take at out ++ rolledBy 64 (cut (2 ^ 56) (drop at bs)) (runLeft words bs at to batch) ≡ whole words bs start))
 
 pub fill-none : (words : List ℕ) (start : ℕ) (bs out : List ℕ) → start ≤ length words → suffices (run 64 (cut (2 ^ 56) bs) words start) ≡ true
     → Filling words start bs out out start 0
@@ -61,7 +67,7 @@ module _ (words : List ℕ) (start : ℕ) (bs out₀ out : List ℕ) (to at : �
         let rest : cut (2 ^ 56) (drop at bs) ≡ batch ∷ plan = rw n (batch-rest bs at h) in
         let k : suffices (runFrom 64 (batch ∷ plan) words to (v .4 .0)) ≡ true = rw rest at (v .4 .1) in
         rw (wrote-d, end) (
-          omega (arith, hit-within 64 batch plan words to (v .4 .0) _ same w place m s (v .0)),
+          omega (arith, hit-within 64 batch plan words to (v .4 .0) _ same w place m s),
           omega (arith, n, batch-within bs at h),
           wrote-length out d at fits ∙ v .2,
           wrote-back out d at fits ∙ drop-more out out₀ at (length d) (v .3),

@@ -1,11 +1,19 @@
 -- The batch that begins at a place of a list of bounds, as the loops over a list meet it, at 64 bits. Assumes nothing.
+--
+--   batchAt bs at              that batch
+--   batch-within, batch-part   it lies within the list, from its place on
+--   batch-rest, batch-none     the plan from a place on is its batch and the plan behind it; behind the last bound there is none
+--   cut-end, cut-place         where the batch ends, as the code has it
+--   cut-next                   the plan goes on there
+--   cut-pos                    its product is 1 or more
+--   cut-find                   the search for its word
 use mathlib.Core.Path.{_≡_, sym, ap, _∙_}
 use mathlib.Core.Bool.{false}
-use mathlib.Core.List.{List, _∷_}
+use mathlib.Core.List.{List, [], _∷_}
 use Prim.Native.Nat.{ℕ, _+_, _-_, _^_, _<_, _≤_}
 use native.Mathlib.Nat.{mod-eq-of-lt}
 use native.Mathlib.Omega.{arith}
-use lib.ListN.{length, take, drop, getD, length-drop}
+use lib.ListN.{length, take, drop, getD, length-drop, drop-of-length-le}
 use lib.Seq.{drop-drop, getD-take, getD-drop}
 use Rattle.arithmetic.specs.Rolls.{product, threshold, accepted, hasZero}
 use Rattle.arithmetic.proofs.Limits.{zero-nowhere, product-some}
@@ -24,11 +32,8 @@ module _ (bs : List ℕ) (at : ℕ) (h : at < length bs) where
   unfolding batchAt
   starts = begun (2 ^ 56) (drop at bs) (rw length-drop (omega arith))
 
-  pub batch-some : 0 < length (batchAt bs at)
+  batch-some : 0 < length (batchAt bs at)
   batch-some = starts .some
-
-  pub batch-few : length (batchAt bs at) ≤ 16
-  batch-few = starts .few
 
   pub batch-within : at + length (batchAt bs at) ≤ length bs
   batch-within = omega (arith, rw length-drop at (starts .within))
@@ -42,13 +47,18 @@ module _ (bs : List ℕ) (at : ℕ) (h : at < length bs) where
       let e : n ≡ at + n - at = omega arith in
       starts .front ∙ ap (λ (k : ℕ). take k (drop at bs)) e
 
-  pub batch-pos : hasZero bs ≡ false → 0 < product (batchAt bs at)
+  batch-pos : hasZero bs ≡ false → 0 < product (batchAt bs at)
   batch-pos z = product-some (batchAt bs at) each
     where
       each : (i : ℕ) → i < length (batchAt bs at) → 0 < getD (batchAt bs at) i 0
       each i k =
           rw (starts .front, getD-take (length (batchAt bs at)) (drop at bs) i 0 k, getD-drop)
           (zero-nowhere bs (at + i) z (omega (arith, batch-within)))
+
+-- behind the last bound no batch is left
+pub batch-none : (bs : List ℕ) (at : ℕ) → length bs ≤ at → cut (2 ^ 56) (drop at bs) ≡ []
+unfolding cut
+batch-none bs at h = rw (drop-of-length-le bs h)
 
 -- the batch as the code has it: where it ends, its product, its threshold
 module _ (bs : List ℕ) (at : ℕ) (h : at < length bs) (z : hasZero bs ≡ false) (c : Cut) (e : c ≡ cutAt bs at) where
@@ -59,7 +69,10 @@ module _ (bs : List ℕ) (at : ℕ) (h : at < length bs) (z : hasZero bs ≡ fal
   pub cut-place : (at < c .end) × (c .end ≤ length bs)
   cut-place = (rw cut-end (omega (arith, batch-some bs at h)), rw cut-end (batch-within bs at h))
 
-  pub cut-product : c .product ≡ product (batchAt bs at)
+  pub cut-next : cut (2 ^ 56) (drop at bs) ≡ batchAt bs at ∷ cut (2 ^ 56) (drop (c .end) bs)
+  cut-next = rw cut-end (batch-rest bs at h)
+
+  cut-product : c .product ≡ product (batchAt bs at)
   unfolding batchAt
   cut-product = ap (λ (x : Cut). x .product) e
 

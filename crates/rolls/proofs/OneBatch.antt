@@ -1,4 +1,12 @@
 -- One batch, refusal by refusal. Assumes nothing.
+--
+--   some-bounds, few-bounds              bounds that number 2 lets pass are 1 to 16
+--   one-refusals                         numbers 2, 4 and 5
+--   one-start                            number 9
+--   one-searched, one-not-found          done, or number 10, by the answer of the search
+--   shown-hit                            the rolls in front of zeros, as the caller sees them
+--   Tested, tested-below, tested-whole   the product, held against 2^64, and the threshold that a word is tested by
+--   above-refused                        a product above 2^64 is refused
 use mathlib.Core.Path.{_≡_, sym, ap, ap₂, _∙_}
 use mathlib.Core.Bool.{true, false}
 use mathlib.Core.List.{List, [], _∷_, _++_, append-nil}
@@ -19,7 +27,7 @@ use Rattle.rolls.specs.Outcome.{refused, done, decide, outside, ofWords,
 use Rattle.rolls.specs.Operations.{rollBatch}
 use Rattle.rolls.specs.Inner.{passes, searched}
 use Rattle.rolls.specs.declared.search.Search.the-variants.{Hit, Missing}
-use Rattle.rolls.proofs.Deciding.{decide-here, decide-past, no-start, no-words, words-done}
+use Rattle.rolls.proofs.Deciding.{OfBatch, of-batch, no-start, no-words, words-done}
 use Rattle.rolls.proofs.Finding.{find-batch, find-within, searched-hit, searched-missing}
 use Rattle.rolls.proofs.Running.{run-hit, run-missing}
 
@@ -31,58 +39,47 @@ module _ (bs : List ℕ) (count : outside 1 16 (length bs) ≡ false) where
   few-bounds = ltb-false 16 (length bs) (or-right (ltb (length bs) 1) (ltb 16 (length bs)) count)
 
 module _ (words : List ℕ) (start : ℕ) (bs : List ℕ) where
-  pub one-count : outside 1 16 (length bs) ≡ true → rollBatch w64 words start bs ≡ refused 2 0
+  pub one-refusals : OfBatch bs (rollBatch w64 words start bs) (decide (ofWords 64 (bs ∷ []) words start) (fromRun 64 (bs ∷ []) words start (λ rs. rs)))
   unfolding rollBatch
-  one-count e = decide-here _ _ _ e
+  one-refusals = of-batch bs _ _
 
-  module _ (count : outside 1 16 (length bs) ≡ false) where
-    pub one-zero : hasZero bs ≡ true → rollBatch w64 words start bs ≡ refused 4 0
-    unfolding rollBatch
-    one-zero e = decide-past _ _ _ count ∙ decide-here _ _ _ e
+  module _ (count : outside 1 16 (length bs) ≡ false) (zeros : hasZero bs ≡ false) (fits : ltb (2 ^ 64) (product bs) ≡ false) where
+    rest : rollBatch w64 words start bs ≡ decide (ofWords 64 (bs ∷ []) words start) (fromRun 64 (bs ∷ []) words start (λ rs. rs))
+    rest = one-refusals .passed count zeros fits
 
-    module _ (zeros : hasZero bs ≡ false) where
-      pub one-product : ltb (2 ^ 64) (product bs) ≡ true → rollBatch w64 words start bs ≡ refused 5 0
-      unfolding rollBatch
-      one-product e = decide-past _ _ _ count ∙ decide-past _ _ _ zeros ∙ decide-here _ _ _ e
+    pub one-start : length words < start → rollBatch w64 words start bs ≡ refused 9 0
+    one-start h = rest ∙ no-start 64 (bs ∷ []) words start _ h
 
-      module _ (fits : ltb (2 ^ 64) (product bs) ≡ false) where
-        rest : rollBatch w64 words start bs ≡ decide (ofWords 64 (bs ∷ []) words start) (fromRun 64 (bs ∷ []) words start (λ rs. rs))
-        unfolding rollBatch
-        rest = decide-past _ _ _ count ∙ decide-past _ _ _ zeros ∙ decide-past _ _ _ fits
+    one-missing : start ≤ length words → find (accepted 64 bs) (drop start words) start ≡ missing
+        → rollBatch w64 words start bs ≡ refused 10 0
+    one-missing h e = rest ∙ no-words 64 (bs ∷ []) words start _ h 0 (run-missing 64 bs [] words start 0 e)
 
-        pub one-start : length words < start → rollBatch w64 words start bs ≡ refused 9 0
-        one-start h = rest ∙ no-start 64 (bs ∷ []) words start _ h
+    one-hit : start ≤ length words → (t : Taken) → find (accepted 64 bs) (drop start words) start ≡ found t
+        → rollBatch w64 words start bs ≡ done (rolls 64 bs (t .word)) (t .place + 1) (t .place - start)
+    unfolding runFrom rollsOf next rejected
+    one-hit h t e =
+        let r : run 64 (bs ∷ []) words start ≡ ran (t ∷ []) = run-hit 64 bs [] words start 0 e in
+        rest ∙ words-done 64 (bs ∷ []) words start _ h (ap suffices r)
+        ∙ ap (λ (x : Run). done (rollsOf 64 (bs ∷ []) (trace x)) (next start (trace x)) (rejected start (trace x))) r
+        ∙ ap₂ (λ (l : List ℕ) (n : ℕ). done l (t .place + 1) n) (append-nil (rolls 64 bs (t .word))) (omega arith)
 
-        one-missing : start ≤ length words → find (accepted 64 bs) (drop start words) start ≡ missing
-            → rollBatch w64 words start bs ≡ refused 10 0
-        one-missing h e = rest ∙ no-words 64 (bs ∷ []) words start _ h 0 (run-missing 64 bs [] words start 0 e)
+    -- the search as the code makes it, with the product at 64 bits and the threshold
+    module _ (h : start ≤ length words) (b t : ℕ) (e : b ≡ product bs % 2 ^ 64) (f : t ≡ threshold 64 (product bs)) where
+      same : find (passes b t) (drop start words) start ≡ find (accepted 64 bs) (drop start words) start
+      same = find-batch bs b t (some-bounds bs count) e f (drop start words) start
 
-        one-hit : start ≤ length words → (t : Taken) → find (accepted 64 bs) (drop start words) start ≡ found t
-            → rollBatch w64 words start bs ≡ done (rolls 64 bs (t .word)) (t .place + 1) (t .place - start)
-        unfolding runFrom rollsOf next rejected
-        one-hit h t e =
-            let r : run 64 (bs ∷ []) words start ≡ ran (t ∷ []) = run-hit 64 bs [] words start 0 e in
-            rest ∙ words-done 64 (bs ∷ []) words start _ h (ap suffices r)
-            ∙ ap (λ (x : Run). done (rollsOf 64 (bs ∷ []) (trace x)) (next start (trace x)) (rejected start (trace x))) r
-            ∙ ap₂ (λ (l : List ℕ) (n : ℕ). done l (t .place + 1) n) (append-nil (rolls 64 bs (t .word))) (omega arith)
+      pub one-searched : (w place m : ℕ) → searched start (find (passes b t) (drop start words) start) ≡ Hit w place m
+          → (rollBatch w64 words start bs ≡ done (rolls 64 bs w) (place + 1) m) × (place < length words)
+      one-searched w place m s =
+          let o = searched-hit start _ w place m s in
+          (rw (o .1) (one-hit h (record { place = place; word = w }) (sym same ∙ o .0)), find-within _ words start (o .0) .1)
 
-        -- the search as the code makes it, with the product at 64 bits and the threshold
-        module _ (h : start ≤ length words) (b t : ℕ) (e : b ≡ product bs % 2 ^ 64) (f : t ≡ threshold 64 (product bs)) where
-          same : find (passes b t) (drop start words) start ≡ find (accepted 64 bs) (drop start words) start
-          same = find-batch bs b t (some-bounds bs count) e f (drop start words) start
-
-          pub one-searched : (w place m : ℕ) → searched start (find (passes b t) (drop start words) start) ≡ Hit w place m
-              → (rollBatch w64 words start bs ≡ done (rolls 64 bs w) (place + 1) m) × (place < length words)
-          one-searched w place m s =
-              let o = searched-hit start _ w place m s in
-              (rw (o .1) (one-hit h (record { place = place; word = w }) (sym same ∙ o .0)), find-within _ words start h (o .0) .1)
-
-          pub one-not-found : searched start (find (passes b t) (drop start words) start) ≡ Missing → rollBatch w64 words start bs ≡ refused 10 0
-          one-not-found s = one-missing h (sym same ∙ searched-missing start _ s)
+      pub one-not-found : searched start (find (passes b t) (drop start words) start) ≡ Missing → rollBatch w64 words start bs ≡ refused 10 0
+      one-not-found s = one-missing h (sym same ∙ searched-missing start _ s)
 
 -- ---- sixteen places
 
-pub drop-zeros : (n m : ℕ) → drop {A = ℕ} n (replicate m 0) ≡ replicate (m - n) 0
+drop-zeros : (n m : ℕ) → drop {A = ℕ} n (replicate m 0) ≡ replicate (m - n) 0
 drop-zeros zero m = rw sub-zero
 drop-zeros (suc n) zero = let e : 0 ≡ 0 - suc n = omega arith in ap (λ (k : ℕ). replicate k 0) e
 drop-zeros (suc n) (suc m) = rw suc-sub-suc (drop-zeros n m)
@@ -98,18 +95,19 @@ shown-hit bs start w place more out e =
 
 -- ---- the product, held against 2^64, and its threshold
 
-pub record Rollable (bs : List ℕ) (b t : ℕ) : Type 0 where
+-- the product is at most 2^64, b is the product at 64 bits, and t is its threshold
+pub record Tested (bs : List ℕ) (b t : ℕ) : Type 0 where
   pub fits : ltb (2 ^ 64) (product bs) ≡ false
   pub wraps : b ≡ product bs % 2 ^ 64
   pub least : t ≡ threshold 64 (product bs)
 
-pub rollable-below : (bs : List ℕ) (b : ℕ) → against (product bs) ≡ Below b → (t : ℕ) → t ≡ threshold 64 b → Rollable bs b t
-rollable-below bs b e t f =
+pub tested-below : (bs : List ℕ) (b : ℕ) → against (product bs) ≡ Below b → (t : ℕ) → t ≡ threshold 64 b → Tested bs b t
+tested-below bs b e t f =
     let o = held-below (product bs) b e in
     record { fits = le-ltb (2 ^ 64) (product bs) (omega (arith, o .1)); wraps = o .0 ∙ sym (mod-eq-of-lt (o .1)); least = f ∙ ap (threshold 64) (o .0) }
 
-pub rollable-whole : (bs : List ℕ) → against (product bs) ≡ Whole → Rollable bs 0 0
-rollable-whole bs e =
+pub tested-whole : (bs : List ℕ) → against (product bs) ≡ Whole → Tested bs 0 0
+tested-whole bs e =
     let w : product bs ≡ 2 ^ 64 = held-whole (product bs) e in
     record { fits = le-ltb (2 ^ 64) (product bs) (omega (arith, w)); wraps = sym (ap (λ (n : ℕ). n % 2 ^ 64) w); least = sym (ap (threshold 64) w) }
 

@@ -1,4 +1,8 @@
 -- A list of bounds, refusal by refusal. Assumes nothing.
+--
+--   list-count, list-zero, list-room   numbers 2, 4 and 6
+--   list-start, list-short             numbers 9 and 10
+--   list-done                          done, where none of them applies
 use mathlib.Core.Path.{_≡_, _∙_}
 use mathlib.Core.Bool.{true, false}
 use mathlib.Core.List.{List}

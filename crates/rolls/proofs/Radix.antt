@@ -1,19 +1,26 @@
 -- Rolls in range, and their value read from the first roll on; the run of words behind a value. Assumes nothing.
+--
+--   range-count                                      rolls that are not as many as the bounds are not in range
+--   range-reached, range-below, range-end            whether the rolls from a place on are in range
+--   range-true, range-length                         what rolls in range are
+--   Reading, reading-none, reading-turn,             the loop that reads the value
+--     reading-done
+--   reading-fits                                     nothing on the way passes the value
+--   first-fits, run-last, run-found                  the run of words behind a value, by division
 use mathlib.Core.Path.{_≡_, refl, sym, ap, ap₂, _∙_, subst}
-use mathlib.Core.Bool.{Bool, true, false, _&&_}
+use mathlib.Core.Bool.{Bool, true, false, _&&_, and-false}
 use mathlib.Core.List.{List, [], _∷_}
 use Prim.Native.Nat.{ℕ, zero, suc, _+_, _-_, _*_, _/_, _^_, _<_, _≤_}
 use native.Mathlib.Nat.{le-mul-of-pos-right, div-eq-sub-div}
-use native.Mathlib.Numerals.{add-one}
 use native.Mathlib.Omega.{arith}
 use lib.Dec.{T, ltb}
 use lib.ListN.{length, drop, getD, drop-of-length-le}
-use lib.Seq.{drop-cons}
 use borrow.Author.Tests.{lt-ltb, le-ltb}
 use Rattle.arithmetic.specs.Rolls.{product, value, inRange, up, threshold}
 use Rattle.arithmetic.proofs.Rolls.{in-range-cons, value-below}
 use Rattle.arithmetic.proofs.Words.{window-fits}
 use Rattle.rolls.specs.Inner.{runBehind}
+use Rattle.rolls.proofs.Writing.{drop-next}
 
 -- ---- whether rolls are in range
 
@@ -23,15 +30,11 @@ range-count [] [] h = absurd (h refl)
 range-count [] (r ∷ rs) h = refl
 range-count (b ∷ bs) [] h = refl
 range-count (b ∷ bs) (r ∷ rs) h = ap (λ (t : Bool). ltb r b && t) (range-count bs rs (λ e. h (ap suc e))) ∙ and-false (ltb r b)
-  where
-    and-false : (s : Bool) → (s && false) ≡ false
-    and-false true = refl
-    and-false false = refl
 
 module _ (bs rs : List ℕ) (i : ℕ) (e : length bs ≡ length rs) where
   step : i < length bs → inRange (drop i bs) (drop i rs) ≡ (ltb (getD rs i 0) (getD bs i 0) && inRange (drop (i + 1) bs) (drop (i + 1) rs))
   unfolding inRange
-  step h = rw (add-one i, drop-cons bs i 0 h, drop-cons rs i 0 (omega arith))
+  step h = rw (drop-next bs i h, drop-next rs i (omega arith))
 
   pub range-reached : i < length bs → getD bs i 0 ≤ getD rs i 0 → inRange (drop i bs) (drop i rs) ≡ false
   range-reached h k = step h ∙ ap (λ (t : Bool). t && inRange (drop (i + 1) bs) (drop (i + 1) rs)) (le-ltb (getD rs i 0) (getD bs i 0) k)
@@ -79,10 +82,8 @@ module _ (bs rs : List ℕ) (a i : ℕ) (v : Reading bs rs a i) where
     pub reading-turn : Reading bs rs (a * getD bs i 0 + getD rs i 0) (i + 1)
     unfolding product value
     reading-turn =
-        let f : drop i bs ≡ getD bs i 0 ∷ drop (i + 1) bs = rw (add-one i) (drop-cons bs i 0 h) in
-        let g : drop i rs ≡ getD rs i 0 ∷ drop (i + 1) rs = rw (add-one i) (drop-cons rs i 0 k) in
         let e : a * (getD bs i 0 * product (drop (i + 1) bs)) + (getD rs i 0 * product (drop (i + 1) bs) + value (drop (i + 1) bs) (drop (i + 1) rs)) ≡ value bs rs
-        = rw (f, g) at (v .1) in
+        = rw (drop-next bs i h, drop-next rs i k) at (v .1) in
         (omega arith, omega (arith, e))
 
     -- nothing on the way passes the value
@@ -103,7 +104,7 @@ module _ (bs rs : List ℕ) (a i : ℕ) (v : Reading bs rs a i) where
 -- ---- the run of words behind a value
 
 -- the number of words less one, by zero less b with wrap
-pub words-less-one : (W b r : ℕ) → 0 < b → b ≤ W → r ≡ W - b → r / b + 1 ≡ W / b
+words-less-one : (W b r : ℕ) → 0 < b → b ≤ W → r ≡ W - b → r / b + 1 ≡ W / b
 words-less-one W b r h l e = rw e (sym (div-eq-sub-div h l))
 
 -- the dividend as the code has it

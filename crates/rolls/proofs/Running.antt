@@ -1,10 +1,12 @@
 -- The run over a plan, batch by batch, over every width. Assumes nothing.
 --
---   run-hit, run-missing                    the next batch got a word, or none
---   finish                                  whether the words suffice, of a run that is begun
---   rolledBy                                the rolls of a run
---   finish-hit, hit-suffices, hit-rolled    one batch on, by the answer of the search
---   finish-missing, never-missing           no word is left
+--   run-hit, run-missing                   the next batch got a word, or none
+--   finish, finish-none                    whether the words suffice, of a run that is begun
+--   rolledBy                               the rolls of a run
+--   after-suffices                         a run with one batch more in front suffices where it does
+--   finish-hit, hit-suffices, hit-rolled   one batch on, by the answer of the search
+--   hit-passed, hit-within                 how many words that batch rejected, and where its word stands
+--   finish-missing, never-missing          no word is left
 use mathlib.Core.Path.{_≡_, refl, sym, ap, _∙_}
 use mathlib.Core.Bool.{Bool, true, false}
 use mathlib.Core.List.{List, _∷_, _++_}
@@ -12,6 +14,7 @@ use Prim.Native.Nat.{ℕ, _+_, _-_, _<_, _≤_}
 use native.Mathlib.Omega.{arith}
 use lib.ListN.{length, drop}
 use Rattle.arithmetic.specs.Rolls.{rolls, accepted}
+use Rattle.arithmetic.proofs.Limits.{clash}
 use Rattle.rolls.specs.Run.{Taken, Found, found, missing, find, Run, ran, short, after, trace, runFrom, rollsOf, next, rejected, suffices}
 use Rattle.rolls.specs.Inner.{searched, supplied}
 use Rattle.rolls.specs.declared.search.Search.the-variants.{Hit, Missing}
@@ -50,7 +53,7 @@ finish-after at r t (short batch) = refl
 abbrev pub rolledBy : ℕ → List (List ℕ) → Run → List ℕ
 rolledBy L plan r = rollsOf L plan (trace r)
 
-after-suffices : (t : Taken) (r : Run) → suffices (after t r) ≡ suffices r
+pub after-suffices : (t : Taken) (r : Run) → suffices (after t r) ≡ suffices r
 after-suffices t (ran ts) = refl
 after-suffices t (short k) = refl
 
@@ -58,7 +61,7 @@ after-rolled : (L : ℕ) (bs : List ℕ) (plan : List (List ℕ)) (t : Taken) (r
     → rolledBy L (bs ∷ plan) (after t r) ≡ rolls L bs (t .word) ++ rolledBy L plan r
 unfolding rollsOf
 after-rolled L bs plan t (ran ts) e = refl
-after-rolled L bs plan t (short k) e = absurd (let z : _≡_ {A = ℕ} 0 1 = cc in let n : ⊥ = omega arith in n)
+after-rolled L bs plan t (short k) e = clash cc
 
 -- ---- one batch, by the answer of the search for its word
 
@@ -80,8 +83,7 @@ module _ (L : ℕ) (bs : List ℕ) (plan : List (List ℕ)) (words : List ℕ) (
       unfolding whole
       never-missing k =
           let z : _≡_ {A = Bool} false true = sym (ap suffices ends) ∙ k in
-          let n : _≡_ {A = ℕ} 0 1 = cc in
-          omega arith
+          clash cc
 
     module _ (w place m : ℕ) (s : searched start f ≡ Hit w place m) where
       later : Run
@@ -112,5 +114,5 @@ module _ (L : ℕ) (bs : List ℕ) (plan : List (List ℕ)) (words : List ℕ) (
       pub hit-passed : m ≡ place - start
       hit-passed = searched-hit start f w place m s .1
 
-      pub hit-within : start ≤ length words → (start ≤ place) × (place < length words)
-      hit-within h = find-within (accepted L bs) words start h (sym e ∙ searched-hit start f w place m s .0)
+      pub hit-within : (start ≤ place) × (place < length words)
+      hit-within = let b = find-within (accepted L bs) words start (sym e ∙ searched-hit start f w place m s .0) in (b .0, b .1)

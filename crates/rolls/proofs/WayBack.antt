@@ -1,4 +1,10 @@
 -- The words behind rolls, refusal by refusal. Assumes nothing.
+--
+--   behind-refusals   numbers 2, 4 and 5
+--   behind-misfit     number 7
+--   behind-found      the run of words, where none of them applies
+--   value-fits        rolls in range have a value below the product
+--   run-whole         the run behind a value where the product is 2^64
 use mathlib.Core.Path.{_≡_, ap, _∙_}
 use mathlib.Core.Bool.{true, false, not}
 use mathlib.Core.List.{List, [], _∷_}
@@ -12,38 +18,26 @@ use Rattle.arithmetic.specs.declared.bounds.Product.the-variants.{Below, Whole}
 use Rattle.arithmetic.specs.Width.{w64}
 use Rattle.arithmetic.proofs.Limits.{held-below, held-whole}
 use Rattle.arithmetic.proofs.Rolls.{value-below}
-use Rattle.rolls.specs.Outcome.{refused, done, no, outside, shownBehind}
+use Rattle.rolls.specs.Outcome.{Outcome, refused, done, no, decide, outside, shownBehind}
 use Rattle.rolls.specs.Operations.{wordsBehind}
 use Rattle.rolls.specs.Inner.{runBehind}
-use Rattle.rolls.proofs.Deciding.{decide-here, decide-past, decide-none}
+use Rattle.rolls.proofs.Deciding.{OfBatch, of-batch, decide-here, decide-past, decide-none}
 use Rattle.rolls.proofs.Radix.{range-true}
 
 module _ (bs rs : List ℕ) where
-  pub behind-count : outside 1 16 (length bs) ≡ true → wordsBehind w64 bs rs ≡ refused 2 0
+  abbrev answer : Outcome
+  answer = done (firstWord 64 bs rs ∷ lastWord 64 bs rs ∷ []) 0 0
+
+  pub behind-refusals : OfBatch bs (wordsBehind w64 bs rs) (decide (no 7 (not (inRange bs rs)) ∷ []) answer)
   unfolding wordsBehind
-  behind-count e = decide-here _ _ _ e
+  behind-refusals = of-batch bs _ _
 
-  module _ (count : outside 1 16 (length bs) ≡ false) where
-    pub behind-zero : hasZero bs ≡ true → wordsBehind w64 bs rs ≡ refused 4 0
-    unfolding wordsBehind
-    behind-zero e = decide-past _ _ _ count ∙ decide-here _ _ _ e
+  module _ (count : outside 1 16 (length bs) ≡ false) (zeros : hasZero bs ≡ false) (fits : ltb (2 ^ 64) (product bs) ≡ false) where
+    pub behind-misfit : inRange bs rs ≡ false → wordsBehind w64 bs rs ≡ refused 7 0
+    behind-misfit e = behind-refusals .passed count zeros fits ∙ decide-here _ _ _ (ap not e)
 
-    module _ (zeros : hasZero bs ≡ false) where
-      pub behind-product : ltb (2 ^ 64) (product bs) ≡ true → wordsBehind w64 bs rs ≡ refused 5 0
-      unfolding wordsBehind
-      behind-product e = decide-past _ _ _ count ∙ decide-past _ _ _ zeros ∙ decide-here _ _ _ e
-
-      module _ (fits : ltb (2 ^ 64) (product bs) ≡ false) where
-        pub behind-misfit : inRange bs rs ≡ false → wordsBehind w64 bs rs ≡ refused 7 0
-        unfolding wordsBehind
-        behind-misfit e = decide-past _ _ _ count ∙ decide-past _ _ _ zeros ∙ decide-past _ _ _ fits ∙ decide-here _ _ _ (ap not e)
-
-        pub behind-found : inRange bs rs ≡ true → shownBehind (wordsBehind w64 bs rs) ≡ runBehind 64 (product bs) (value bs rs)
-        unfolding wordsBehind
-        behind-found e =
-            ap shownBehind
-            (decide-past _ _ _ count ∙ decide-past _ _ _ zeros ∙ decide-past _ _ _ fits ∙ decide-past _ _ _ (ap not e)
-            ∙ decide-none (done (firstWord 64 bs rs ∷ lastWord 64 bs rs ∷ []) 0 0))
+    pub behind-found : inRange bs rs ≡ true → shownBehind (wordsBehind w64 bs rs) ≡ runBehind 64 (product bs) (value bs rs)
+    behind-found e = ap shownBehind (behind-refusals .passed count zeros fits ∙ decide-past _ _ _ (ap not e) ∙ decide-none answer)
 
 -- ---- the value and its run, as the code has them
 

@@ -1,4 +1,4 @@
--- `grow` meets its contract, case by case of what is held so far. Assumes nothing.
+-- `arithmetic::bounds::grow` meets its contract, case by case of what is held so far. Assumes nothing.
 use mathlib.Core.Path.{_∙_, sym, ap}
 use Prim.Native.Nat.{_*_, _^_, _<_}
 use native.Mathlib.Omega.{arith}

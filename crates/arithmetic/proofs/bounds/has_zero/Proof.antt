@@ -1,4 +1,5 @@
--- `has_zero` meets its contract. The loop: what is left has a 0 exactly where the whole has; the measure is what is left. Assumes nothing.
+-- `arithmetic::bounds::has_zero` meets its contract. The loop's invariant: what is left of the list has a 0 exactly where the whole
+-- has. The measure is what is left. Assumes nothing.
 use mathlib.Core.Path.{_≡_, _∙_, sym}
 use Prim.Native.Nat.{_-_, _≤_}
 use borrow.Author.Needs.{needs}

@@ -1,4 +1,5 @@
--- `product_of` meets its contract. The loop holds the product of the bounds passed; the measure is what is left of the list. Assumes nothing.
+-- `arithmetic::bounds::product_of` meets its contract. The loop's invariant: the product of the bounds passed is held against 2^64. The
+-- measure is what is left of the list. Assumes nothing.
 use mathlib.Core.Path.{_≡_, _∙_, refl, sym, ap}
 use mathlib.Core.List.{List}
 use Prim.Native.Nat.{ℕ, _-_, _≤_}

@@ -1,4 +1,5 @@
--- `product_of_two` meets its contract: the first test tells that the product is below 2^64, the second that it is 2^64 itself. Assumes nothing.
+-- `arithmetic::bounds::product_of_two` meets its contract: the first test tells that the product is below 2^64, the second that it is
+-- 2^64 itself. Assumes nothing.
 use mathlib.Core.Path.{_∙_, sym}
 use Rattle.arithmetic.proofs.Limits.{against-below, against-whole, against-above, is-below, some, is-whole, is-above}
 use borrow.Author.Needs.{needs}

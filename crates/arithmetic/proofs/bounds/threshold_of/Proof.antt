@@ -1,4 +1,5 @@
--- `threshold_of` meets its contract: zero less b, taken with wrap, is 2^64 less b, which leaves the same remainder as 2^64. Assumes nothing.
+-- `arithmetic::bounds::threshold_of` meets its contract: zero less b, taken with wrap, is 2^64 less b, which leaves the same remainder
+-- as 2^64. Assumes nothing.
 use mathlib.Core.Path.{_≡_, _∙_, ap}
 use Prim.Native.Nat.{ℕ, _-_, _%_, _^_}
 use Rattle.arithmetic.proofs.Rolls.{threshold-wraps}

@@ -1,4 +1,5 @@
--- `within` meets its contract: p * b is at most the limit exactly where p is at most the limit divided by b. Assumes nothing.
+-- `arithmetic::bounds::within` meets its contract: p * b is at most the limit exactly where p is at most the limit divided by b.
+-- Assumes nothing.
 use Rattle.arithmetic.proofs.Limits.{leb-div}
 use borrow.Author.Needs.{needs}
 use Rattle.arithmetic.proofs.bounds.within.Statement.{statement}

@@ -1,4 +1,4 @@
--- `wide::high` meets its contract: the columns of the product by hand, each sum within a word. Assumes nothing.
+-- `arithmetic::wide::high` meets its contract: the columns of the product by hand, each sum within a word. Assumes nothing.
 use native.Mathlib.Omega.{arith}
 use Rattle.arithmetic.proofs.Halves.{four-halves, high-columns}
 use Rattle.arithmetic.proofs.wide.high.Statement.{statement}

@@ -1,4 +1,4 @@
--- `wide::low` meets its contract: the lower halves of the columns. Assumes nothing.
+-- `arithmetic::wide::low` meets its contract: the lower halves of the columns. Assumes nothing.
 use native.Mathlib.Omega.{arith}
 use borrow.Author.Needs.{needs}
 use Rattle.arithmetic.proofs.Halves.{four-halves, low-columns}

@@ -1,5 +1,5 @@
--- Each way out is one refusal of the definition, or the last one, where none applies: the test is the definition's, and the rolls written
--- are those that it looks up. Assumes nothing.
+-- `draws::order::rolls_behind` meets its contract. Each way out is one refusal of the definition, or the last one, where none applies:
+-- the test is the definition's, and the rolls written are those that it looks up. Assumes nothing.
 use mathlib.Core.Path.{_∙_, sym, ap}
 use mathlib.Core.List.{List, _++_}
 use Prim.Native.Nat.{ℕ}

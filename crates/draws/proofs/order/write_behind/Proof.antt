@@ -1,26 +1,27 @@
--- The loop's invariant: with m records still to place the marks are the inverse of the list as it stands, and the lent list holds the
--- rolls so far, then that list from place m - 1 down to 1 (Placing). The measure is m. Assumes nothing.
+-- `draws::order::write_behind` meets its contract. The loop's invariant: with m records still to place the marks are the inverse of the
+-- list as it stands, and the lent list holds the rolls so far, then that list from place m - 1 down to 1 (Inverting). The measure is m.
+-- Assumes nothing.
 use mathlib.Core.Path.{_≡_, refl}
 use mathlib.Core.Logic.{⊎-elim}
 use native.Mathlib.Omega.{arith}
 use lib.ListN.{length, length-set}
 use borrow.Author.Needs.{needs}
-use Rattle.draws.proofs.Inverse.{Placing, place-start, Looked, place-look, move-none, move-one, place-turn, place-done}
+use Rattle.draws.proofs.Inverse.{Inverting, invert-start, Looked, invert-look, move-none, move-one, invert-turn, invert-done}
 use Rattle.draws.proofs.order.write_behind.Statement.{statement}
 use Rattle.draws.proofs.order.write_behind.Tie as tie
 
 abbrev Inv-loop : tie.InvT-loop
-Inv-loop order marks₀ rolls₀ n m₀ marks rolls m = (length marks ≡ length marks₀) × Placing order rolls₀ marks rolls m
+Inv-loop order marks₀ rolls₀ n m₀ marks rolls m = (length marks ≡ length marks₀) × Inverting order rolls₀ marks rolls m
 
 abbrev μ-loop : tie.MeasureT-loop
 μ-loop order marks₀ rolls₀ n m₀ marks rolls m = m
 
 look : (c : tie.In-loop Inv-loop μ-loop)
     → Looked (c .before .before .args .order .now) (c .before .loop .marks) (c .before .loop .rolls) (c .before .loop .m)
-look c = place-look (c .before .loop .inv .1) (search needs)
+look c = invert-look (c .before .loop .inv .1) (search needs)
 
 loop-holds : tie.Need-loop-holds Inv-loop μ-loop
-loop-holds c = (refl, place-start _ _ _ (c .pre .0 .3) (c .pre .0 .2) (c .pre .1 .0) (c .pre .1 .1))
+loop-holds c = (refl, invert-start _ _ _ (c .pre .0 .3) (c .pre .0 .2) (c .pre .1 .0) (c .pre .1 .1))
 
 sub-r : tie.Need-sub-r Inv-loop μ-loop
 sub-r c = search needs
@@ -89,7 +90,7 @@ loop-again : tie.Need-loop-again Inv-loop μ-loop
 loop-again c = let b = c .before .before .before .before .before in
     let k = look (c .before .before .before .before) in (
       simp length-set (b .loop .inv .0),
-      place-turn (b .loop .inv .1) (search needs) _ _ refl refl (c .if1 .rolls)
+      invert-turn (b .loop .inv .1) (search needs) _ _ refl refl (c .if1 .rolls)
           (⊎-elim (λ w. rw (w .1) (move-one _ _ _ _ _ (search needs) (omega arith) (search needs) (search needs)))
           (λ w. rw (w .1) (move-none _ _ _ _ _ (search needs)))
           (c .if1 .came)),
@@ -111,7 +112,7 @@ same-length-2 : tie.Need-same-length-2 Inv-loop μ-loop
 same-length-2 c = search needs
 
 returns : tie.Need-returns Inv-loop μ-loop
-returns c = place-done (c .before .loop .inv .1) (search needs)
+returns c = invert-done (c .before .loop .inv .1) (search needs)
 
 pub write-behind-spec : {M : Type 1} → statement M
 write-behind-spec =

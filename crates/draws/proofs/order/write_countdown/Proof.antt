@@ -1,20 +1,22 @@
--- The loop's invariant: the first i of n - 1, .., 1 are written, and what is left of them makes the whole (Counting). Assumes nothing.
-use mathlib.Core.Path.{_≡_, refl}
-use Prim.Native.Nat.{_-_}
-use native.Mathlib.Omega.{arith}
+-- `draws::order::write_countdown` meets its contract. The loop's invariant: the first i of n - 1, .., 1 are written (Written). The
+-- measure is n less i. Assumes nothing.
+use mathlib.Core.Path.{sym}
+use Prim.Native.Nat.{_-_, _<_}
 use borrow.Author.Needs.{needs}
-use Rattle.draws.proofs.Inverse.{Counting, count-turn, count-done}
+use Rattle.rolls.proofs.Writing.{Written, written-none, written-turn, written-done}
+use Rattle.draws.specs.Shuffle.{countdown}
+use Rattle.draws.proofs.Plans.{countdown-length, countdown-at}
 use Rattle.draws.proofs.order.write_countdown.Statement.{statement}
 use Rattle.draws.proofs.order.write_countdown.Tie as tie
 
 abbrev Inv-loop : tie.InvT-loop
-Inv-loop n rolls₀ i₀ rolls i = Counting (n - 1) rolls₀ rolls i
+Inv-loop n rolls₀ i₀ rolls i = Written (countdown (n - 1) (n - 1)) (n - 1) rolls₀ rolls i
 
 abbrev μ-loop : tie.MeasureT-loop
 μ-loop n rolls₀ i₀ rolls i = n - i
 
 loop-holds : tie.Need-loop-holds Inv-loop μ-loop
-loop-holds c = let e : c .args .n - 1 - 0 ≡ c .args .n - 1 = omega arith in rw e (search needs, refl, refl, refl)
+loop-holds c = written-none (countdown (c .args .n - 1) (c .args .n - 1)) _ _
 
 add-loop : tie.Need-add-loop Inv-loop μ-loop
 add-loop c = search needs
@@ -38,13 +40,16 @@ loop-less : tie.Need-loop-less Inv-loop μ-loop
 loop-less c = search needs
 
 loop-again : tie.Need-loop-again Inv-loop μ-loop
-loop-again c = count-turn _ _ _ _ (c .before .loop .inv) (search needs) (search needs)
+loop-again c =
+    let b = c .before in
+    let m : b .loop .i < b .before .args .n - 1 = search needs in
+    written-turn _ _ (countdown-length _ _) _ _ _ (b .loop .inv) _ m (search needs) (sym (countdown-at _ _ _ m))
 
 same-length : tie.Need-same-length Inv-loop μ-loop
 same-length c = search needs
 
 returns : tie.Need-returns Inv-loop μ-loop
-returns c = count-done _ _ _ _ (c .before .loop .inv) (search needs)
+returns c = written-done _ _ (countdown-length _ _) _ _ _ (c .before .loop .inv) (search needs)
 
 pub write-countdown-spec : {M : Type 1} → statement M
 write-countdown-spec =

@@ -1,20 +1,27 @@
--- `count_up` meets its contract: the invariant is `Counting`. Assumes nothing.
-use Prim.Native.Nat.{_-_}
+-- `draws::sample::count_up` meets its contract. The loop's invariant: the first i numbers are written (Written). The measure is what is
+-- left of the list. Assumes nothing.
+use mathlib.Core.Path.{_∙_, sym, ap}
+use mathlib.Core.List.{List, _++_, append-nil}
+use Prim.Native.Nat.{ℕ, _-_, _<_}
+use native.Mathlib.Nat.{le-refl}
 use native.Mathlib.Omega.{arith}
 use borrow.Author.Needs.{needs}
 use lib.ListN.{length}
-use Rattle.draws.proofs.Sampling.{Counting, count-none, count-turn, count-done}
+use lib.Seq.{drop-length}
+use Rattle.rolls.proofs.Writing.{Written, written-none, written-turn, written-whole}
+use Rattle.draws.specs.Sample.{countup}
+use Rattle.draws.proofs.Plans.{countup-length, countup-at}
 use Rattle.draws.proofs.sample.count_up.Statement.{statement}
 use Rattle.draws.proofs.sample.count_up.Tie as tie
 
 abbrev Inv-loop : tie.InvT-loop
-Inv-loop bounds₀ from i₀ bounds i = Counting bounds₀ from bounds i
+Inv-loop bounds₀ from i₀ bounds i = Written (countup (length bounds₀) from) (length bounds₀) bounds₀ bounds i
 
 abbrev μ-loop : tie.MeasureT-loop
 μ-loop bounds₀ from i₀ bounds i = length bounds₀ - i
 
 loop-holds : tie.Need-loop-holds Inv-loop μ-loop
-loop-holds c = count-none (c .args .bounds .now) (c .args .from)
+loop-holds c = written-none (countup (length (c .args .bounds .now)) (c .args .from)) _ _
 
 add-bounds : tie.Need-add-bounds Inv-loop μ-loop
 add-bounds c = let b = c .before in omega (arith, b .before .pre, b .loop .inv .0)
@@ -32,13 +39,20 @@ loop-less : tie.Need-loop-less Inv-loop μ-loop
 loop-less c = search needs
 
 loop-again : tie.Need-loop-again Inv-loop μ-loop
-loop-again c = let b = c .before in count-turn (b .before .args .bounds .now) (b .before .args .from) (b .loop .bounds) (b .loop .i) (b .loop .inv) (search needs)
+loop-again c =
+    let b = c .before in
+    let m : b .loop .i < length (b .before .args .bounds .now) = search needs in
+    written-turn _ _ (countup-length _ _) _ _ _ (b .loop .inv) _ m (le-refl _) (sym (countup-at _ _ _ m))
 
 same-length : tie.Need-same-length Inv-loop μ-loop
 same-length c = search needs
 
 returns : tie.Need-returns Inv-loop μ-loop
-returns c = let b = c .before in count-done (b .before .args .bounds .now) (b .before .args .from) (b .loop .bounds) (b .loop .i) (b .loop .inv) (search needs)
+returns c =
+    let b = c .before in
+    written-whole _ _ (countup-length _ _) _ _ _ (b .loop .inv) (search needs)
+    ∙ ap (λ (l : List ℕ). countup (length (b .before .args .bounds .now)) (b .before .args .from) ++ l) (drop-length (b .before .args .bounds .now))
+    ∙ append-nil _
 
 pub count-up-spec : {M : Type 1} → statement M
 count-up-spec =

@@ -1,4 +1,4 @@
--- `draw_sample` meets its contract: whether the words suffice, and then the slots. Assumes nothing.
+-- `draws::sample::draw_sample` meets its contract: whether the words suffice, and then the slots. Assumes nothing.
 use mathlib.Core.Path.{_∙_, sym, ap}
 use mathlib.Core.List.{_++_}
 use Prim.Native.Nat.{ℕ, _^_}

@@ -1,4 +1,5 @@
--- `fill_slots` meets its contract: the rolls stand in front of a local array, and the reservoir is run with them. Assumes nothing.
+-- `draws::sample::fill_slots` meets its contract: the rolls stand in front of a local array, and the reservoir is run with them.
+-- Assumes nothing.
 use mathlib.Core.Path.{_≡_, _∙_, sym, ap}
 use Prim.Native.Nat.{ℕ, _+_, _^_, _≤_}
 use native.Mathlib.Omega.{arith}
@@ -8,7 +9,7 @@ use lib.ListN.{length, take, drop, replicate, length-replicate}
 use Rattle.rolls.specs.Run.{run, trace, rollsOf}
 use Rattle.rolls.specs.Cut.{cut}
 use Rattle.draws.specs.Sample.{reservoir}
-use Rattle.draws.proofs.Sampling.{prefix-count, array-kept, prefix-back, prefix-rolls, drawn, bound-count, bounds-no-zero}
+use Rattle.draws.proofs.Sampling.{prefix-count, array-kept, prefix-back, prefix-rolls, slots-drawn, bound-count, bounds-no-zero}
 use borrow.Author.Needs.{needs}
 use Rattle.draws.proofs.sample.fill_slots.Statement.{statement}
 use Rattle.draws.proofs.sample.fill_slots.Tie as tie
@@ -71,7 +72,7 @@ returns c = let f = c .before .before .before .before .before .before .before in
     let s = w .before .before .before .before .before .before in
     let a = s .args in
     let r = run 64 (cut (2 ^ 56) (a .bounds .now)) (a .words .now) (a .start) in
-    drawn (a .records .now) (a .slots .now) (f .take-first .last .1 .1 .0) (a .k) (rollsOf 64 (cut (2 ^ 56) (a .bounds .now)) (trace r)) _
+    slots-drawn (a .records .now) (a .slots .now) (f .take-first .last .1 .1 .0) (a .k) (rollsOf 64 (cut (2 ^ 56) (a .bounds .now)) (trace r)) _
     (s .pre .0 .2) (f .take-first .ensures)
     (c .before .before .take-later .ensures
     ∙ ap (λ (js : List ℕ). reservoir (take (a .k) (f .take-first .last .1 .1 .0)) (drop (a .k) (a .records .now)) js ++ drop (a .k) (f .take-first .last .1 .1 .0))

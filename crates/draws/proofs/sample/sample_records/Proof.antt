@@ -1,4 +1,5 @@
--- `sample_records` meets its contract, refusal by refusal (OneSample); the bounds stand in front of a local array. Assumes nothing.
+-- `draws::sample::sample_records` meets its contract, refusal by refusal (OneSample); the bounds stand in front of a local array.
+-- Assumes nothing.
 use mathlib.Core.Path.{_≡_, _∙_, sym, ap}
 use mathlib.Core.List.{_++_}
 use Prim.Native.Nat.{ℕ, _+_, _-_, _≤_}

@@ -1,18 +1,22 @@
--- `take_first` meets its contract: the invariant is `First`. Assumes nothing.
-use Prim.Native.Nat.{_-_}
+-- `draws::sample::take_first` meets its contract. The loop's invariant: the first i records are written (Written). The measure is what
+-- is left of k. Assumes nothing.
+use mathlib.Core.Path.{sym}
+use Prim.Native.Nat.{_-_, _<_}
 use borrow.Author.Needs.{needs}
-use Rattle.draws.proofs.Sampling.{First, first-none, first-turn, first-done}
+use lib.ListN.{take}
+use lib.Seq.{length-take-le, getD-take}
+use Rattle.rolls.proofs.Writing.{Written, written-none, written-turn, written-whole}
 use Rattle.draws.proofs.sample.take_first.Statement.{statement}
 use Rattle.draws.proofs.sample.take_first.Tie as tie
 
 abbrev Inv-loop : tie.InvT-loop
-Inv-loop records k slots₀ i₀ slots i = First records k slots₀ slots i
+Inv-loop records k slots₀ i₀ slots i = Written (take k records) k slots₀ slots i
 
 abbrev μ-loop : tie.MeasureT-loop
 μ-loop records k slots₀ i₀ slots i = k - i
 
 loop-holds : tie.Need-loop-holds Inv-loop μ-loop
-loop-holds c = first-none (c .args .records .now) (c .args .k) (c .args .slots .now)
+loop-holds c = written-none (take (c .args .k) (c .args .records .now)) _ _
 
 mul-slots : tie.Need-mul-slots Inv-loop μ-loop
 mul-slots c = search needs
@@ -33,17 +37,17 @@ loop-less : tie.Need-loop-less Inv-loop μ-loop
 loop-less c = search needs
 
 loop-again : tie.Need-loop-again Inv-loop μ-loop
-loop-again c = let b = c .before .before in
+loop-again c =
+    let b = c .before .before in
     let s = b .before in
-    first-turn (s .args .records .now) (s .args .k) (s .args .slots .now) (b .loop .slots) (b .loop .i) (b .loop .inv) (search needs) (s .pre .0) (s .pre .1)
+    let m : b .loop .i < s .args .k = search needs in
+    written-turn _ _ (length-take-le _ _ (s .pre .0)) _ _ _ (b .loop .inv) _ m (s .pre .1) (sym (getD-take (s .args .k) (s .args .records .now) _ 0 m))
 
 same-length : tie.Need-same-length Inv-loop μ-loop
 same-length c = search needs
 
 returns : tie.Need-returns Inv-loop μ-loop
-returns c = let b = c .before in
-    let s = b .before in
-    first-done (s .args .records .now) (s .args .k) (s .args .slots .now) (b .loop .slots) (b .loop .i) (b .loop .inv) (search needs)
+returns c = let b = c .before in written-whole _ _ (length-take-le _ _ (b .before .pre .0)) _ _ _ (b .loop .inv) (search needs)
 
 pub take-first-spec : {M : Type 1} → statement M
 take-first-spec =

@@ -1,4 +1,6 @@
--- `take_later` meets its contract: the invariant is `Later`; a record takes a slot or passes. Assumes nothing.
+-- `draws::sample::take_later` meets its contract. The loop's invariant: the first i of the later records have had their turn, and the
+-- others make the slots what all of them make (Later); a record takes a slot or passes. The measure is what is left of the rolls.
+-- Assumes nothing.
 use Prim.Native.Nat.{_-_, _<_}
 use mathlib.Core.Logic.{⊎-elim}
 use borrow.Author.Needs.{needs}

@@ -1,4 +1,4 @@
--- `exchange_records` meets its contract: two stores. Assumes nothing.
+-- `draws::shuffle::exchange_records` meets its contract: two stores. Assumes nothing.
 use mathlib.Core.Path.{refl}
 use Rattle.draws.specs.Shuffle.{exchange}
 use borrow.Author.Needs.{needs}

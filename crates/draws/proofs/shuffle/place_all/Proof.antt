@@ -1,9 +1,11 @@
--- `place_all` meets its contract: the invariant is `Shuffling`. That a word is missing cannot be, since the words suffice. Assumes nothing.
+-- `draws::shuffle::place_all` meets its contract. The loop's invariant: with m records still to place the rest of the run suffices, and
+-- its rolls bring the list as it stands to what the whole shuffle gives (Shuffling); so no word is missing. The measure is m.
+-- Assumes nothing.
 use mathlib.Core.Path.{_∙_, sym}
 use Prim.Native.Nat.{_≤_}
 use native.Mathlib.Omega.{arith}
 use borrow.Author.Needs.{needs}
-use Rattle.draws.proofs.Shuffling.{Shuffling, shuffle-none, shuffle-turn, shuffle-never, shuffle-done, batch-less, batch-fits}
+use Rattle.draws.proofs.Shuffling.{Shuffling, shuffling-none, shuffling-turn, shuffling-never, shuffling-done, batch-less, batch-fits}
 use Rattle.draws.proofs.shuffle.place_all.Statement.{statement}
 use Rattle.draws.proofs.shuffle.place_all.Tie as tie
 
@@ -17,7 +19,7 @@ few : (b : tie.At-loop Inv-loop μ-loop) → b .loop .m ≤ 16384
 few b = omega (arith, b .loop .inv .1, b .before .before .before .pre .1)
 
 loop-holds : tie.Need-loop-holds Inv-loop μ-loop
-loop-holds c = let s = c .before .before in shuffle-none (s .args .words .now) (s .args .start) (s .args .records .now) (s .pre .0) (s .pre .2)
+loop-holds c = let s = c .before .before in shuffling-none (s .args .words .now) (s .args .start) (s .args .records .now) (s .pre .0) (s .pre .2)
 
 batch-size-requires : tie.Need-batch-size-requires Inv-loop μ-loop
 batch-size-requires c κs = search needs
@@ -49,7 +51,7 @@ loop-again c = let w = c .before .before .before .before .before in
     let z = w .before .before .before .before .before in
     let b = z .before .before in
     let s = b .before .before .before in
-    shuffle-turn (s .args .words .now) (s .args .start) (s .args .records .now) (s .pre .1) _ _ _ (b .loop .inv) (z .before .loop-test .taken) _ (z .batch-size .ensures)
+    shuffling-turn (s .args .words .now) (s .args .start) (s .args .records .now) (s .pre .1) _ _ _ (b .loop .inv) (z .before .loop-test .taken) _ (z .batch-size .ensures)
     _ _ (w .before .before .before .before .product-down .ensures) (w .before .before .before .threshold-of .ensures)
     _ _ _ (sym (w .before .before .find-word .ensures) ∙ w .word .given .1) _ (c .before .before .place-batch .ensures)
 
@@ -76,7 +78,7 @@ returns : tie.Need-returns Inv-loop μ-loop
 returns c = let z = c .before .before .before .before .before in
     let b = z .before .before in
     let s = b .before .before .before in
-    absurd (shuffle-never (s .args .words .now) (s .args .start) (s .args .records .now) (s .pre .1) _ _ _ (b .loop .inv) (z .before .loop-test .taken) _ (z .batch-size .ensures)
+    absurd (shuffling-never (s .args .words .now) (s .args .start) (s .args .records .now) (s .pre .1) _ _ _ (b .loop .inv) (z .before .loop-test .taken) _ (z .batch-size .ensures)
     _ _ (c .before .before .before .before .product-down .ensures) (c .before .before .before .threshold-of .ensures)
     (sym (c .before .before .find-word .ensures) ∙ c .enum-told .given .1))
 
@@ -86,7 +88,7 @@ same-length-2 c = search needs
 returns-2 : tie.Need-returns-2 Inv-loop μ-loop
 returns-2 c =
     let s = c .before .before .before .before in
-    shuffle-done (s .args .words .now) (s .args .start) (s .args .records .now) (s .pre .1) _ _ _ (c .before .loop .inv) (search needs)
+    shuffling-done (s .args .words .now) (s .args .start) (s .args .records .now) (s .pre .1) _ _ _ (c .before .loop .inv) (search needs)
 
 pub place-all-spec : {M : Type 1} → statement M
 place-all-spec =

@@ -1,7 +1,9 @@
--- `place_batch` meets its contract: the invariant is `Placing`, one exchange a turn; a roll is below its bound. Assumes nothing.
+-- `draws::shuffle::place_batch` meets its contract. The loop's invariant: the rolls of the bounds passed are taken out of the word, one
+-- exchange each (Placing); a roll is below its bound. The measure is the bounds that are left. Assumes nothing.
 use native.Mathlib.Omega.{arith}
 use borrow.Author.Needs.{needs}
-use Rattle.draws.proofs.Placing.{Placing, place-none, place-turn, place-done, roll-below}
+use Rattle.arithmetic.proofs.Rolls.{roll-below}
+use Rattle.draws.proofs.Placing.{Placing, place-none, place-turn, place-done}
 use Rattle.draws.proofs.shuffle.place_batch.Statement.{statement}
 use Rattle.draws.proofs.shuffle.place_batch.Tie as tie
 

@@ -1,4 +1,4 @@
--- `shuffle_records` meets its contract, refusal by refusal (OneShuffle). Assumes nothing.
+-- `draws::shuffle::shuffle_records` meets its contract, refusal by refusal (OneShuffle). Assumes nothing.
 use mathlib.Core.Path.{_∙_, sym}
 use lib.ListN.{length}
 use Rattle.arithmetic.specs.Width.{size64}

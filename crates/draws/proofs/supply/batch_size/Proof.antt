@@ -1,4 +1,4 @@
--- `batch_size` meets its contract, range by range. Assumes nothing.
+-- `draws::supply::batch_size` meets its contract, range by range. Assumes nothing.
 use borrow.Author.Tests.{le-leb, lt-leb}
 use Rattle.arithmetic.specs.Width.{size64}
 use borrow.Author.Needs.{needs}

@@ -1,4 +1,5 @@
--- `product_down` meets its contract: the invariant is `Growing`; no product on the way passes the whole. Assumes nothing.
+-- `draws::supply::product_down` meets its contract. The loop's invariant: the product so far, times that of the bounds left, is the
+-- whole (Growing); so no product on the way passes it. The measure is the bounds that are left. Assumes nothing.
 use borrow.Author.Needs.{needs}
 use Rattle.draws.proofs.Placing.{Growing, grow-none, grow-turn, grow-fits, grow-done}
 use Rattle.draws.proofs.supply.product_down.Statement.{statement}

@@ -1,23 +1,27 @@
--- `supply_shuffle` meets its contract: the invariant is `Supplying`, one batch a turn; the measure is the records still to place. Assumes nothing.
+-- `draws::supply::supply_shuffle` meets its contract. The loop's invariant: the batches before the records still to place have their
+-- words, and what is left of the plan is that of those records (Supplying). The measure is the records still to place. Assumes nothing.
 use mathlib.Core.Path.{_∙_, sym}
-use Prim.Native.Nat.{_≤_}
+use Prim.Native.Nat.{_+_, _≤_}
 use native.Mathlib.Omega.{arith}
 use borrow.Author.Needs.{needs}
-use Rattle.draws.proofs.Shuffling.{Supplying, supply-none, supply-hit, supply-short, supply-done, batch-less, batch-fits}
+use Rattle.rolls.proofs.Supplying.{Supplying, supply-none, supply-hit, supply-short, supply-done}
+use Rattle.draws.proofs.Plans.{sizes64, plan-end}
+use Rattle.draws.proofs.Shuffling.{plan64, batch-less, batch-fits, batch-plan, batch-find}
 use Rattle.draws.proofs.supply.supply_shuffle.Statement.{statement}
 use Rattle.draws.proofs.supply.supply_shuffle.Tie as tie
 
 abbrev Inv-loop : tie.InvT-loop
-Inv-loop words start n next₀ rejected₀ batch₀ m₀ next rejected batch m = Supplying words start n next rejected batch m
+Inv-loop words start n next₀ rejected₀ batch₀ m₀ next rejected batch m =
+    (batch + m ≤ n) × Supplying 64 (plan64 n) words start (plan64 m) next rejected batch
 
 abbrev μ-loop : tie.MeasureT-loop
 μ-loop words start n next₀ rejected₀ batch₀ m₀ next rejected batch m = m
 
 few : (b : tie.At-loop Inv-loop μ-loop) → b .loop .m ≤ 16384
-few b = omega (arith, b .loop .inv .1, b .before .before .pre .1)
+few b = omega (arith, b .loop .inv .0, b .before .before .pre .1)
 
 loop-holds : tie.Need-loop-holds Inv-loop μ-loop
-loop-holds c = supply-none _ _ _ (c .before .pre .0)
+loop-holds c = (omega arith, supply-none 64 _ _ _ (c .before .pre .0))
 
 batch-size-requires : tie.Need-batch-size-requires Inv-loop μ-loop
 batch-size-requires c κs = search needs
@@ -40,17 +44,23 @@ enum-known-place : tie.Need-enum-known-place Inv-loop μ-loop
 enum-known-place c = search needs
 
 loop-again : tie.Need-loop-again Inv-loop μ-loop
-loop-again c = let z = c .before .before .before .before .before .before in
+loop-again c =
+    let z = c .before .before .before .before .before .before in
     let b = z .before .before in
-    supply-hit _ _ _ (b .before .before .pre .1) _ _ _ _ (b .loop .inv) (z .before .loop-test .taken) _ (z .batch-size .ensures)
-    _ _ (c .before .before .before .before .before .product-down .ensures) (c .before .before .before .before .threshold-of .ensures)
-    _ _ _ (sym (c .before .before .before .find-word .ensures) ∙ c .before .place .given .1)
+    let h = z .before .loop-test .taken in
+    let l = batch-less (b .loop .m) (z .batch-size .result) h (few b) (z .batch-size .ensures) in (
+      omega (arith, l, b .loop .inv .0),
+      supply-hit 64 _ _ _ _ _ _ _ (b .loop .inv .1) _ _ (batch-plan _ _ h (few b) (z .batch-size .ensures)) _
+          (batch-find _ _ h (few b) (z .batch-size .ensures) _ _ (c .before .before .before .before .before .product-down .ensures)
+          (c .before .before .before .before .threshold-of .ensures) _ _)
+          _ _ _ (sym (c .before .before .before .find-word .ensures) ∙ c .before .place .given .1),
+    )
 
 add-next : tie.Need-add-next Inv-loop μ-loop
-add-next c = let v = loop-again c in omega (arith, v .0)
+add-next c = let v = loop-again c in omega (arith, v .1 .0)
 
 add-rejected : tie.Need-add-rejected Inv-loop μ-loop
-add-rejected c = let v = loop-again c in omega (arith, v .0, v .2)
+add-rejected c = let v = loop-again c in omega (arith, v .1 .0, v .1 .1)
 
 add-batch : tie.Need-add-batch Inv-loop μ-loop
 add-batch c = search needs
@@ -69,14 +79,20 @@ enum-told : tie.Need-enum-told Inv-loop μ-loop
 enum-told c = search needs
 
 returns : tie.Need-returns Inv-loop μ-loop
-returns c = let z = c .before .before .before .before .before in
+returns c =
+    let z = c .before .before .before .before .before in
     let b = z .before .before in
-    supply-short _ _ _ (b .before .before .pre .1) _ _ _ _ (b .loop .inv) (z .before .loop-test .taken) _ (z .batch-size .ensures)
-    _ _ (c .before .before .before .before .product-down .ensures) (c .before .before .before .threshold-of .ensures)
+    let h = z .before .loop-test .taken in
+    supply-short 64 _ _ _ _ _ _ _ (b .loop .inv .1) _ _ (batch-plan _ _ h (few b) (z .batch-size .ensures)) _
+    (batch-find _ _ h (few b) (z .batch-size .ensures) _ _ (c .before .before .before .before .product-down .ensures)
+    (c .before .before .before .threshold-of .ensures) _ _)
     (sym (c .before .before .find-word .ensures) ∙ c .enum-told .given .1)
 
 returns-2 : tie.Need-returns-2 Inv-loop μ-loop
-returns-2 c = supply-done _ _ _ (c .before .before .before .pre .1) _ _ _ _ (c .before .loop .inv) (search needs)
+returns-2 c =
+    let b = c .before in
+    let h : b .loop .m ≤ 1 = search needs in
+    supply-done 64 _ _ _ _ _ _ _ (b .loop .inv .1) (plan-end sizes64 _ h)
 
 pub supply-shuffle-spec : {M : Type 1} → statement M
 supply-shuffle-spec =

@@ -1,4 +1,5 @@
--- `draw_batch` meets its contract: the start, then the search for the word, then its rolls in front of zeros. Assumes nothing.
+-- `rolls::batch::draw_batch` meets its contract: the start, then the search for the word, then its rolls in front of zeros.
+-- Assumes nothing.
 use mathlib.Core.Path.{_∙_, sym, ap}
 use Prim.Native.Nat.{_≤_}
 use native.Mathlib.Omega.{arith}

@@ -1,11 +1,11 @@
--- `roll_batch` meets its contract, refusal by refusal (OneBatch); the product is held against 2^64. Assumes nothing.
+-- `rolls::batch::roll_batch` meets its contract, refusal by refusal (OneBatch); the product is held against 2^64. Assumes nothing.
 use mathlib.Core.Path.{_∙_, sym, ap}
 use lib.ListN.{length}
 use Rattle.arithmetic.specs.Rolls.{product}
 use Rattle.arithmetic.proofs.Limits.{held-below, product-pos}
 use Rattle.rolls.specs.Outcome.{shownBatch}
 use Rattle.rolls.proofs.Deciding.{in-count, below-count, above-count}
-use Rattle.rolls.proofs.OneBatch.{one-count, one-zero, one-product, rollable-below, rollable-whole, above-refused}
+use Rattle.rolls.proofs.OneBatch.{one-refusals, tested-below, tested-whole, above-refused}
 use borrow.Author.Needs.{needs}
 use Rattle.rolls.proofs.batch.roll_batch.Statement.{statement}
 use Rattle.rolls.proofs.batch.roll_batch.Tie as tie
@@ -15,14 +15,14 @@ refused-batch-requires c κs = search needs
 
 returns : tie.Need-returns
 returns c = let a = c .before .before .before .before .args in
-    c .refused-batch .ensures ∙ ap (shownBatch (a .start)) (sym (one-count (a .words .now) (a .start) (a .bounds .now) (below-count 1 16 (length (a .bounds .now)) (c .before .if1 .taken))))
+    c .refused-batch .ensures ∙ ap (shownBatch (a .start)) (sym (one-refusals (a .words .now) (a .start) (a .bounds .now) .count (below-count 1 16 (length (a .bounds .now)) (c .before .if1 .taken))))
 
 refused-batch-requires-2 : tie.Need-refused-batch-requires-2
 refused-batch-requires-2 c κs = search needs
 
 returns-2 : tie.Need-returns-2
 returns-2 c = let a = c .before .before .before .before .before .args in
-    c .refused-batch2 .ensures ∙ ap (shownBatch (a .start)) (sym (one-count (a .words .now) (a .start) (a .bounds .now) (above-count 1 16 (length (a .bounds .now)) (c .before .if2 .taken))))
+    c .refused-batch2 .ensures ∙ ap (shownBatch (a .start)) (sym (one-refusals (a .words .now) (a .start) (a .bounds .now) .count (above-count 1 16 (length (a .bounds .now)) (c .before .if2 .taken))))
 
 has-zero-requires : tie.Need-has-zero-requires
 has-zero-requires c κs = search needs
@@ -33,7 +33,7 @@ refused-batch-requires-3 c κs = search needs
 returns-3 : tie.Need-returns-3
 returns-3 c = let a = c .before .before .before .before .before .before .before .args in
     c .refused-batch3 .ensures
-    ∙ ap (shownBatch (a .start)) (sym (one-zero (a .words .now) (a .start) (a .bounds .now) (in-count 1 16 (length (a .bounds .now)) (search needs) (search needs))
+    ∙ ap (shownBatch (a .start)) (sym (one-refusals (a .words .now) (a .start) (a .bounds .now) .zeros (in-count 1 16 (length (a .bounds .now)) (search needs) (search needs))
     (sym (c .before .before .has-zero .ensures) ∙ c .before .if3 .taken)))
 
 product-of-requires : tie.Need-product-of-requires
@@ -52,7 +52,7 @@ draw-batch-requires : tie.Need-draw-batch-requires
 draw-batch-requires c κs = let k = c .before .before in
     let p = k .before .before in
     let bs = p .before .before .before .before .before .before .before .args .bounds .now in
-    let o = rollable-below bs (k .b .given .0 .0) (sym (p .product-of .ensures) ∙ k .b .given .1) _ (c .threshold-of .ensures) in
+    let o = tested-below bs (k .b .given .0 .0) (sym (p .product-of .ensures) ∙ k .b .given .1) _ (c .threshold-of .ensures) in
     ((in-count 1 16 (length bs) (search needs) (search needs), sym (p .before .before .has-zero .ensures) ∙ p .before .if3 .left, o .fits), (o .wraps, o .least))
 
 enum-told : tie.Need-enum-told
@@ -61,7 +61,7 @@ enum-told c = search needs
 draw-batch-requires-2 : tie.Need-draw-batch-requires-2
 draw-batch-requires-2 c κs = let p = c .before .before in
     let bs = p .before .before .before .before .before .before .before .args .bounds .now in
-    let o = rollable-whole bs (sym (p .product-of .ensures) ∙ c .enum-told .given .1) in
+    let o = tested-whole bs (sym (p .product-of .ensures) ∙ c .enum-told .given .1) in
     ((in-count 1 16 (length bs) (search needs) (search needs), sym (p .before .before .has-zero .ensures) ∙ p .before .if3 .left, o .fits), (o .wraps, o .least))
 
 enum-told-2 : tie.Need-enum-told-2
@@ -80,7 +80,7 @@ returns-6 : tie.Need-returns-6
 returns-6 c = let p = c .before .before .before in
     let a = p .before .before .before .before .before .before .before .args in
     c .refused-batch4 .ensures
-    ∙ ap (shownBatch (a .start)) (sym (one-product (a .words .now) (a .start) (a .bounds .now) (in-count 1 16 (length (a .bounds .now)) (search needs) (search needs))
+    ∙ ap (shownBatch (a .start)) (sym (one-refusals (a .words .now) (a .start) (a .bounds .now) .large (in-count 1 16 (length (a .bounds .now)) (search needs) (search needs))
     (sym (p .before .before .has-zero .ensures) ∙ p .before .if3 .left) (above-refused (a .bounds .now) (sym (p .product-of .ensures) ∙ c .before .enum-told2 .given .1))))
 
 pub roll-batch-spec : {M : Type 1} → statement M

@@ -1,4 +1,5 @@
--- `run_below` meets its contract: the first word by a division rounded up, the last by the number of words less one. Assumes nothing.
+-- `rolls::behind::run_below` meets its contract: the first word by a division rounded up, the last by the number of words less one.
+-- Assumes nothing.
 use mathlib.Core.Path.{_≡_}
 use Prim.Native.Nat.{_-_, _^_}
 use native.Mathlib.Omega.{arith}

@@ -1,4 +1,5 @@
--- `value_of` meets its contract: the invariant is `Reading`, the value of the rolls read so far; nothing on the way passes the value. Assumes nothing.
+-- `rolls::behind::value_of` meets its contract. The loop's invariant: a is the value of the rolls read so far (Reading); nothing on the
+-- way passes the value of all. The measure is the rolls that are left. Assumes nothing.
 use Prim.Native.Nat.{_-_}
 use native.Mathlib.Omega.{arith}
 use borrow.Author.Needs.{needs}

@@ -1,4 +1,5 @@
--- `words_behind` meets its contract, refusal by refusal (WayBack); for a product of 2^64 each value is its own word. Assumes nothing.
+-- `rolls::behind::words_behind` meets its contract, refusal by refusal (WayBack); for a product of 2^64 each value is its own word.
+-- Assumes nothing.
 use Rattle.rolls.specs.Inner.{runBehind}
 use Rattle.arithmetic.proofs.Limits.{held-below}
 use mathlib.Core.Path.{_∙_, refl, sym, ap, ap₂}
@@ -7,8 +8,8 @@ use borrow.Author.Tests.{ltb-false, not-true, not-false}
 use Rattle.arithmetic.specs.Rolls.{product}
 use Rattle.rolls.specs.Outcome.{shownBehind}
 use Rattle.rolls.proofs.Deciding.{in-count, below-count, above-count}
-use Rattle.rolls.proofs.OneBatch.{rollable-below, rollable-whole, above-refused}
-use Rattle.rolls.proofs.WayBack.{behind-count, behind-zero, behind-product, behind-misfit, behind-found, value-fits, run-whole}
+use Rattle.rolls.proofs.OneBatch.{tested-below, tested-whole, above-refused}
+use Rattle.rolls.proofs.WayBack.{behind-refusals, behind-misfit, behind-found, value-fits, run-whole}
 use borrow.Author.Needs.{needs}
 use Rattle.rolls.proofs.behind.words_behind.Statement.{statement}
 use Rattle.rolls.proofs.behind.words_behind.Tie as tie
@@ -18,14 +19,14 @@ refused-behind-requires c κs = search needs
 
 returns : tie.Need-returns
 returns c = let a = c .before .before .before .before .args in
-    c .refused-behind .ensures ∙ ap shownBehind (sym (behind-count (a .bounds .now) (a .rolls .now) (below-count 1 16 (length (a .bounds .now)) (c .before .if1 .taken))))
+    c .refused-behind .ensures ∙ ap shownBehind (sym (behind-refusals (a .bounds .now) (a .rolls .now) .count (below-count 1 16 (length (a .bounds .now)) (c .before .if1 .taken))))
 
 refused-behind-requires-2 : tie.Need-refused-behind-requires-2
 refused-behind-requires-2 c κs = search needs
 
 returns-2 : tie.Need-returns-2
 returns-2 c = let a = c .before .before .before .before .before .args in
-    c .refused-behind2 .ensures ∙ ap shownBehind (sym (behind-count (a .bounds .now) (a .rolls .now) (above-count 1 16 (length (a .bounds .now)) (c .before .if2 .taken))))
+    c .refused-behind2 .ensures ∙ ap shownBehind (sym (behind-refusals (a .bounds .now) (a .rolls .now) .count (above-count 1 16 (length (a .bounds .now)) (c .before .if2 .taken))))
 
 has-zero-requires : tie.Need-has-zero-requires
 has-zero-requires c κs = search needs
@@ -36,7 +37,7 @@ refused-behind-requires-3 c κs = search needs
 returns-3 : tie.Need-returns-3
 returns-3 c = let a = c .before .before .before .before .before .before .before .args in
     c .refused-behind3 .ensures
-    ∙ ap shownBehind (sym (behind-zero (a .bounds .now) (a .rolls .now) (in-count 1 16 (length (a .bounds .now)) (search needs) (search needs))
+    ∙ ap shownBehind (sym (behind-refusals (a .bounds .now) (a .rolls .now) .zeros (in-count 1 16 (length (a .bounds .now)) (search needs) (search needs))
     (sym (c .before .before .has-zero .ensures) ∙ c .before .if3 .taken)))
 
 product-of-requires : tie.Need-product-of-requires
@@ -55,7 +56,7 @@ returns-4 : tie.Need-returns-4
 returns-4 c = let k = c .before .before .before .before in
     let p = k .before .before in
     let a = p .before .before .before .before .before .before .before .args in
-    let o = rollable-below (a .bounds .now) _ (sym (p .product-of .ensures) ∙ k .b .given .1) _ refl in
+    let o = tested-below (a .bounds .now) _ (sym (p .product-of .ensures) ∙ k .b .given .1) _ refl in
     c .refused-behind4 .ensures
     ∙ ap shownBehind (sym (behind-misfit (a .bounds .now) (a .rolls .now) (in-count 1 16 (length (a .bounds .now)) (search needs) (search needs))
     (sym (p .before .before .has-zero .ensures) ∙ p .before .if3 .left) (o .fits)
@@ -65,7 +66,7 @@ value-of-requires : tie.Need-value-of-requires
 value-of-requires c κs = let k = c .before .before .before in
     let p = k .before .before in
     let bs = p .before .before .before .before .before .before .before .args .bounds .now in
-    let o = rollable-below bs _ (sym (p .product-of .ensures) ∙ k .b .given .1) _ refl in
+    let o = tested-below bs _ (sym (p .product-of .ensures) ∙ k .b .given .1) _ refl in
     (sym (c .before .in-range .ensures) ∙ not-false (c .before .in-range .result) (c .if4 .left), ltb-false _ (product bs) (o .fits))
 
 run-below-requires : tie.Need-run-below-requires
@@ -89,7 +90,7 @@ returns-5 : tie.Need-returns-5
 returns-5 c = let k = c .before .before .before in
     let p = k .before .before in
     let a = p .before .before .before .before .before .before .before .args in
-    let o = rollable-whole (a .bounds .now) (sym (p .product-of .ensures) ∙ k .enum-told .given .1) in
+    let o = tested-whole (a .bounds .now) (sym (p .product-of .ensures) ∙ k .enum-told .given .1) in
     c .refused-behind5 .ensures
     ∙ ap shownBehind (sym (behind-misfit (a .bounds .now) (a .rolls .now) (in-count 1 16 (length (a .bounds .now)) (search needs) (search needs))
     (sym (p .before .before .has-zero .ensures) ∙ p .before .if3 .left) (o .fits)
@@ -99,7 +100,7 @@ value-of-requires-2 : tie.Need-value-of-requires-2
 value-of-requires-2 c κs = let k = c .before .before in
     let p = k .before .before in
     let bs = p .before .before .before .before .before .before .before .args .bounds .now in
-    let o = rollable-whole bs (sym (p .product-of .ensures) ∙ k .enum-told .given .1) in
+    let o = tested-whole bs (sym (p .product-of .ensures) ∙ k .enum-told .given .1) in
     (sym (c .before .in-range2 .ensures) ∙ not-false (c .before .in-range2 .result) (c .if5 .left), ltb-false _ (product bs) (o .fits))
 
 enum-told-2 : tie.Need-enum-told-2
@@ -113,7 +114,7 @@ returns-6 c = let k = c .before .before .before .before .before in
     let p = k .before .before in
     let a = p .before .before .before .before .before .before .before .args in
     let e = sym (p .product-of .ensures) ∙ k .b .given .1 in
-    let o = rollable-below (a .bounds .now) _ e _ refl in
+    let o = tested-below (a .bounds .now) _ e _ refl in
     let r = c .before .before .before in
     c .run-below .ensures ∙ ap₂ (runBehind 64) (held-below (product (a .bounds .now)) _ e .0) (c .before .value-of .ensures)
     ∙ sym (behind-found (a .bounds .now) (a .rolls .now) (in-count 1 16 (length (a .bounds .now)) (search needs) (search needs))
@@ -125,7 +126,7 @@ returns-7 c = let k = c .before .before .before in
     let p = k .before .before in
     let a = p .before .before .before .before .before .before .before .args in
     let e = sym (p .product-of .ensures) ∙ k .enum-told .given .1 in
-    let o = rollable-whole (a .bounds .now) e in
+    let o = tested-whole (a .bounds .now) e in
     let r = c .before .before in
     run-whole (a .bounds .now) _ e ∙ ap (runBehind 64 (product (a .bounds .now))) (c .value-of2 .ensures)
     ∙ sym (behind-found (a .bounds .now) (a .rolls .now) (in-count 1 16 (length (a .bounds .now)) (search needs) (search needs))
@@ -136,7 +137,7 @@ returns-8 : tie.Need-returns-8
 returns-8 c = let p = c .before .before .before in
     let a = p .before .before .before .before .before .before .before .args in
     c .refused-behind6 .ensures
-    ∙ ap shownBehind (sym (behind-product (a .bounds .now) (a .rolls .now) (in-count 1 16 (length (a .bounds .now)) (search needs) (search needs))
+    ∙ ap shownBehind (sym (behind-refusals (a .bounds .now) (a .rolls .now) .large (in-count 1 16 (length (a .bounds .now)) (search needs) (search needs))
     (sym (p .before .before .has-zero .ensures) ∙ p .before .if3 .left) (above-refused (a .bounds .now) (sym (p .product-of .ensures) ∙ c .before .enum-told2 .given .1))))
 
 pub words-behind-spec : {M : Type 1} → statement M

@@ -1,4 +1,6 @@
--- `cut_at` meets its contract: the invariant is `Cutting`; the batch ends with the list, at sixteen bounds, or where the product passes the limit. Assumes nothing.
+-- `rolls::cut::cut_at` meets its contract. The loop's invariant: the bounds from `at` up to `end` have joined one batch (Cutting); it
+-- ends with the list, at sixteen bounds, or where the product passes the limit. The measure is what is left of the list.
+-- Assumes nothing.
 use native.Mathlib.Omega.{arith}
 use borrow.Author.Tests.{leb-true, not-true, not-false}
 use mathlib.Core.Path.{_∙_, sym}

@@ -1,4 +1,5 @@
--- `roll_list` meets its contract, refusal by refusal (OneList); a dry run tells whether the words suffice before anything is written. Assumes nothing.
+-- `rolls::list::roll_list` meets its contract, refusal by refusal (OneList); a dry run tells whether the words suffice before anything
+-- is written. Assumes nothing.
 use Rattle.rolls.specs.Run.{run, trace, rollsOf}
 use Rattle.rolls.specs.Cut.{cut}
 use mathlib.Core.Path.{_∙_, sym, ap}

@@ -1,4 +1,5 @@
--- `write_list` meets its contract: the invariant is `Filling`. That a word is missing cannot be, since the words suffice. Assumes nothing.
+-- `rolls::list::write_list` meets its contract. The loop's invariant: the rolls of the bounds before `at` are written, and the rest of
+-- the run suffices (Filling); so no word is missing. The measure is the bounds that are left. Assumes nothing.
 use lib.ListN.{length-take, length-drop}
 use mathlib.Core.Path.{_∙_, sym}
 use Prim.Native.Nat.{_-_}

@@ -1,4 +1,5 @@
--- `find_word` meets its contract. The loop: the search of what is left finds what the whole search finds, and the words passed are rejected. Assumes nothing.
+-- `rolls::search::find_word` meets its contract. The loop's invariant: the search of what is left finds what the whole search finds,
+-- and the words passed are rejected. The measure is the words that are left. Assumes nothing.
 use borrow.Author.Tests.{le-leb, lt-leb}
 use Rattle.rolls.specs.declared.search.Search.the-variants.{Hit}
 use mathlib.Core.Path.{_≡_, _∙_, sym, ap}

@@ -1,4 +1,5 @@
--- `write_rolls` meets its contract: the invariant is `Unfolding` of Writing, the measure the bounds that are left. Assumes nothing.
+-- `rolls::unfold::write_rolls` meets its contract. The loop's invariant: the rolls of the first i bounds are written, and r is what
+-- they left (Unfolding). The measure is the bounds that are left. Assumes nothing.
 use Prim.Native.Nat.{_-_}
 use borrow.Author.Needs.{needs}
 use lib.ListN.{length}

@@ -1,19 +1,23 @@
 -- `sheet::bytes::read_records` meets its contract. The loop's invariant: the first i records are in the list, and the rest of it is as
 -- it was. The measure is what is left of the count. Assumes nothing.
-use Prim.Native.Nat.{_-_}
+use mathlib.Core.Path.{_∙_, sym}
+use Prim.Native.Nat.{_-_, _<_}
 use borrow.Author.Needs.{needs}
-use Rattle.sheet.proofs.Reading.{Filled, filled-none, filled-turn, filled-done}
+use Rattle.rolls.proofs.Writing.{Written, written-none, written-turn, written-whole}
+use Rattle.sheet.specs.Sheet.{entries}
+use Rattle.sheet.proofs.Soundness.{entries-length}
+use Rattle.sheet.proofs.Reading.{entries-at}
 use Rattle.sheet.proofs.bytes.read_records.Statement.{statement}
 use Rattle.sheet.proofs.bytes.read_records.Tie as tie
 
 abbrev Inv-loop : tie.InvT-loop
-Inv-loop sheet at count records₀ i₀ records i = Filled 4 sheet at count records₀ records i
+Inv-loop sheet at count records₀ i₀ records i = Written (entries 4 count at sheet) count records₀ records i
 
 abbrev μ-loop : tie.MeasureT-loop
 μ-loop sheet at count records₀ i₀ records i = count - i
 
 loop-holds : tie.Need-loop-holds Inv-loop μ-loop
-loop-holds c = filled-none 4 _ _ _ _
+loop-holds c = let s = c .before .before in written-none (entries 4 (s .args .count) (s .args .at) (s .args .sheet .now)) _ _
 
 mul-read-number : tie.Need-mul-read-number Inv-loop μ-loop
 mul-read-number c = search needs
@@ -39,13 +43,15 @@ loop-less c = search needs
 loop-again : tie.Need-loop-again Inv-loop μ-loop
 loop-again c =
     let b = c .before .before in
-    filled-turn 4 _ _ _ _ _ _ (b .loop .inv) _ (search needs) (b .before .before .before .pre .1) (c .read-number .ensures)
+    let s = b .before .before .before in
+    let m : b .loop .i < s .args .count = search needs in
+    written-turn _ _ (entries-length 4 _ _ _) _ _ _ (b .loop .inv) _ m (s .pre .1) (c .read-number .ensures ∙ sym (entries-at 4 _ _ _ _ m))
 
 same-length : tie.Need-same-length Inv-loop μ-loop
 same-length c = search needs
 
 returns : tie.Need-returns Inv-loop μ-loop
-returns c = filled-done 4 _ _ _ _ _ _ (c .before .loop .inv) (search needs)
+returns c = written-whole _ _ (entries-length 4 _ _ _) _ _ _ (c .before .loop .inv) (search needs)
 
 pub read-records-spec : {M : Type 1} → statement M
 read-records-spec =
