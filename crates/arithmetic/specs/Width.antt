@@ -1,6 +1,7 @@
 -- What fixes a width: everything that document 01 says of 64-bit words in numbers is here, once.
 --
 --   Width     the bits L of a word, the limit of a cut, the sizes of a shuffle's batches
+--   size64    the sizes at 64 bits
 --   w64       the product's width
 use mathlib.Core.Bool.{true, false}
 use Prim.Native.Nat.{ℕ, _-_, _^_}

@@ -18,9 +18,9 @@ use lib.ListN.{length, getD}
 use borrow.Author.Tests.{eq-eqb, ne-eqb}
 use Rattle.arithmetic.proofs.Rolls.{both}
 use Rattle.draws.specs.Sample.{countup}
-use Rattle.draws.specs.Order.{count, eachOnce, isOrder, rollsInto, AllBelow, Distinct, Among, Reorders, Only}
+use Rattle.draws.specs.Order.{count, eachOnce, isOrder, rollsInto, AllBelow, Distinct, Reorders, Only}
 use Rattle.draws.proofs.Plans.{countup-length, countup-at}
-use Rattle.draws.proofs.Orders.{one-series}
+use Rattle.draws.proofs.Orders.{Among, one-series}
 
 -- ---- how often a number stands in a list
 

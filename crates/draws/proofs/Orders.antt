@@ -1,6 +1,7 @@
 -- Orders of different records and series of rolls: each series in range gives an order, and each order comes from one series, the one
 -- that is looked up. The batches play no part: a shuffle is one flat series with the bounds n, n - 1, .., 2. Assumes nothing.
 --
+--   Among                                            a record stands in a list
 --   length-exchange, exchange-last,                  what stands where after an exchange
 --     exchange-first, exchange-other
 --   place-of                                         the place of a record that stands at one place
@@ -27,8 +28,12 @@ use borrow.Author.Tests.{eqb-true, eqb-false}
 use Rattle.arithmetic.specs.Rolls.{inRange}
 use Rattle.arithmetic.proofs.Rolls.{in-range-cons}
 use Rattle.draws.specs.Shuffle.{exchange, shuffleWith, shuffleBounds}
-use Rattle.draws.specs.Order.{placeOf, rollsInto, Distinct, Among, Reorders, Only}
+use Rattle.draws.specs.Order.{placeOf, rollsInto, Distinct, Reorders, Only}
 use Rattle.draws.proofs.Plans.{no-bounds, bounds-cons}
+
+-- x stands in xs
+abbrev pub Among : ℕ → List ℕ → Type 0
+Among x xs = (p : ℕ) × (p < length xs) × (getD xs p 0 ≡ x)
 
 -- ---- an exchange
 

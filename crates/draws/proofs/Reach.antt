@@ -2,6 +2,7 @@
 -- when each word lies in its batch's run. No word may be rejected, since fewer words than batches are too few. From this and the one
 -- series of rolls behind an order: which words shuffle the records into which order. Assumes nothing.
 --
+--   range-split                rolls in range, batch by batch
 --   rolled-in-range            the rolls of a run are in range
 --   words-in-runs              one word for each batch: the run gives the rolls exactly when each word lies in its run
 --   shuffleRun, shuffleRolls   the run of a shuffle, and its rolls
@@ -36,7 +37,7 @@ use Rattle.draws.proofs.Orders.{one-series}
 
 -- ---- rolls in range, batch by batch
 
-range-split : (bs cs rs : List ℕ) → T (inRange (bs ++ cs) rs) → T (inRange bs (take (length bs) rs)) × T (inRange cs (drop (length bs) rs))
+pub range-split : (bs cs rs : List ℕ) → T (inRange (bs ++ cs) rs) → T (inRange bs (take (length bs) rs)) × T (inRange cs (drop (length bs) rs))
 unfolding inRange
 range-split [] cs rs i = (tt, i)
 range-split (b ∷ bs) cs [] i = absurd i

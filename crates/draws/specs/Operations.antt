@@ -3,7 +3,7 @@
 --   shuffle W words start xs          the records xs in a fromRun order
 --   sample W words start xs k room    k of the records xs, with room for so many
 --   rollsBehind ys room               the rolls behind the order ys, with room for so many
---   shuffleRefusals ..                the numbers that an operation can meet, in the order of the paper, each with its test
+--   shuffleRefusals, sampleRefusals, orderRefusals    the numbers that each can meet, in the order of the paper, with their tests
 --   samplePlan W n k                  the batches of a sample of k from n records
 --   sampled W words start xs k        the sample, where nothing is refused
 use mathlib.Core.Bool.{not}

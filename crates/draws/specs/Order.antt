@@ -7,7 +7,6 @@
 --   rollsInto m xs ys    the rolls that shuffle xs into ys, an order of the same records, with m records still to place
 --   AllBelow top xs      every element of xs is below top
 --   Distinct xs          no record stands at two places
---   Among x xs           x stands in xs
 --   Reorders xs ys       ys is an order of the records of xs
 --   Only m xs ys rs      of the rolls in range, rs and no others shuffle xs into ys, with m records still to place
 use mathlib.Core.Path.{_≡_}
@@ -49,12 +48,9 @@ AllBelow top xs = (i : ℕ) → i < length xs → getD xs i 0 < top
 abbrev pub Distinct : List ℕ → Type 0
 Distinct xs = (i j : ℕ) → i < length xs → j < length xs → getD xs i 0 ≡ getD xs j 0 → i ≡ j
 
-abbrev pub Among : ℕ → List ℕ → Type 0
-Among x xs = (p : ℕ) × (p < length xs) × (getD xs p 0 ≡ x)
-
 pub record Reorders (xs ys : List ℕ) : Type 0 where
   pub same-length : length ys ≡ length xs
-  pub among : (i : ℕ) → i < length ys → Among (getD ys i 0) xs
+  pub among : (i : ℕ) → i < length ys → (p : ℕ) × (p < length xs) × (getD xs p 0 ≡ getD ys i 0)
   pub distinct : Distinct ys
 
 pub record Only (m : ℕ) (xs ys rs : List ℕ) : Type 0 where

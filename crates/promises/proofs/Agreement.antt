@@ -1,5 +1,7 @@
 -- Agreement: each contract is an equation that names the whole of what the caller sees, and functions that are equal on every input are
 -- equal. Assumes nothing.
+--
+--   agreement    the statement holds
 use mathlib.Core.Path.{sym, _∙_}
 use Rattle.promises.specs.Agreement.{Agreement}
 

@@ -1,8 +1,7 @@
 -- Demand 1, operation by operation: each outcome is decided by the list that the statement names. And the batch that number 10 names:
 -- the run stops at the first batch that finds no word. Assumes nothing.
 --
---   demand1            the demand
---   shuffle-refused    and of a shuffle alone
+--   demand1    the demand
 use mathlib.Core.Path.{_≡_, refl, sym, ap, _∙_}
 use mathlib.Core.Bool.{true, false, not}
 use mathlib.Core.List.{List, [], _∷_}
@@ -11,6 +10,7 @@ use native.Mathlib.Numerals.{add-one}
 use native.Mathlib.Omega.{arith}
 use lib.Dec.{T}
 use lib.ListN.{length, take, drop}
+use Rattle.arithmetic.proofs.Limits.{clash}
 use Rattle.arithmetic.specs.Rolls.{accepted}
 use Rattle.arithmetic.specs.Width.{w64}
 use Rattle.rolls.specs.Run.{Found, found, missing, find, Run, run, runFrom, ran, short, suffices, after}
@@ -30,17 +30,18 @@ use Rattle.promises.proofs.Refusing.{as-refused}
 
 -- ---- the batch that number 10 names
 
-pub record Stops (L : ℕ) (plan : List (List ℕ)) (words : List ℕ) (start batch k : ℕ) : Type 0 where
-  pub place : ℕ
-  pub named : batch + place ≡ k
-  pub within : place < length plan
-  pub before : suffices (runFrom L (take place plan) words start batch) ≡ true
-  pub with-it : suffices (runFrom L (take (suc place) plan) words start batch) ≡ false
+-- the batch at a place of the plan, number k, is the first that gets no word
+record Stops (L : ℕ) (plan : List (List ℕ)) (words : List ℕ) (start batch k : ℕ) : Type 0 where
+  place : ℕ
+  named : batch + place ≡ k
+  within : place < length plan
+  before : suffices (runFrom L (take place plan) words start batch) ≡ true
+  with-it : suffices (runFrom L (take (suc place) plan) words start batch) ≡ false
 
 module _ (L : ℕ) (words : List ℕ) where
   stops : (plan : List (List ℕ)) (start batch k : ℕ) → runFrom L plan words start batch ≡ short k → Stops L plan words start batch k
   unfolding runFrom
-  stops [] start batch k e = absurd (let z : _≡_ {A = ℕ} 0 1 = cc in let n : ⊥ = omega arith in n)
+  stops [] start batch k e = clash cc
   stops (bs ∷ plan) start batch k e = go (find (accepted L bs) (drop start words) start) refl (stops plan)
     where
       go : (f : Found) → find (accepted L bs) (drop start words) start ≡ f
@@ -70,7 +71,7 @@ module _ (L : ℕ) (words : List ℕ) where
           later n = runFrom L (take n plan) words (t .place + 1) (batch + 1)
 
           inner : (r : Run) → after t r ≡ short k → r ≡ short k
-          inner (ran ts) h = absurd (let z : _≡_ {A = ℕ} 0 1 = cc in let n : ⊥ = omega arith in n)
+          inner (ran ts) h = clash cc
           inner (short j) h = h
 
           after-suffices : (r : Run) → suffices (after t r) ≡ suffices r
@@ -93,12 +94,6 @@ beside start lent refusals values next rejected got e =
     as-refused (seen start lent) (λ o. (shown start o, lent)) (λ (x : Answer × List ℕ). x .0 .no) (λ n b. refl) (λ n b. refl)
     (done values next rejected) refl refusals got e
 
--- what a shuffle gives, of any call
-pub shuffle-refused : (got : Answer × List ℕ) (words : List ℕ) (start : ℕ) (xs : List ℕ) → got ≡ seen start xs (shuffle w64 words start xs)
-    → AsRefused (shuffleRefusals w64 words start (length xs)) (λ o. (shown start o, xs)) (got .0 .no) got
-unfolding shuffle
-shuffle-refused got words start xs e = beside start xs (shuffleRefusals w64 words start (length xs)) _ _ _ got e
-
 pub demand1 : HoldsDemand1
 demand1 op m = record {
   roll-batch = λ words start bs. unfold rollBatch in
@@ -106,7 +101,8 @@ demand1 op m = record {
       (batchRefusals w64 words start bs) (op .roll-batch words start bs) (m .roll-batch words start bs);
   roll-list = λ words start bs lent. unfold rollList in
       beside start lent (listRefusals w64 words start bs (length lent)) _ _ _ (op .roll-list words start bs lent) (m .roll-list words start bs lent);
-  shuffle = λ words start xs. shuffle-refused (op .shuffle words start xs) words start xs (m .shuffle words start xs);
+  shuffle = λ words start xs. unfold shuffle in
+      beside start xs (shuffleRefusals w64 words start (length xs)) _ _ _ (op .shuffle words start xs) (m .shuffle words start xs);
   sample = λ words start xs k lent. unfold sample in
       beside start lent (sampleRefusals w64 words start (length xs) k (length lent)) _ _ _ (op .sample words start xs k lent)
       (m .sample words start xs k lent);

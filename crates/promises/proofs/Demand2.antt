@@ -1,5 +1,8 @@
 -- Demand 2, operation by operation. Where no refusal applies the words suffice for the plan, and the run follows the paper's method.
 -- Assumes nothing.
+--
+--   one-outcome    the method leaves one outcome
+--   demand2        the demand
 use mathlib.Core.Path.{_≡_, refl, sym, ap, _∙_}
 use mathlib.Core.Logic.{_↔_}
 use mathlib.Core.Bool.{false}
@@ -12,7 +15,7 @@ use lib.ListN.{length, take, drop, replicate}
 use borrow.Author.Tests.{ltb-false, not-false}
 use Rattle.arithmetic.specs.Rolls.{product, accepted, inRange, hasZero}
 use Rattle.arithmetic.specs.Width.{w64, size64}
-use Rattle.arithmetic.proofs.Limits.{or-right, zero-nowhere, product-pos}
+use Rattle.arithmetic.proofs.Limits.{clash, or-right, zero-nowhere, product-pos}
 use Rattle.arithmetic.proofs.Words.{words-behind}
 use Rattle.rolls.specs.Run.{Run, ran, short, run, trace, rollsOf, next, rejected, suffices}
 use Rattle.rolls.specs.Cut.{cut}
@@ -45,15 +48,15 @@ use Rattle.promises.proofs.Lemire.{gives-iff, RanAs, follows-run, run-f
 -- ---- the words of a plan
 
 module _ (plan : List (List ℕ)) (words : List ℕ) (start : ℕ) (a : Allowed (ofWords 64 plan words start)) where
-  pub starts : start ≤ length words
+  starts : start ≤ length words
   starts = ltb-false (length words) start (allowed-cons _ _ a .0)
 
-  pub enough : T (suffices (run 64 plan words start))
+  enough : T (suffices (run 64 plan words start))
   enough = go (run 64 plan words start) (allowed-cons _ _ (allowed-cons _ _ a .1) .0)
     where
       go : (r : Run) → noWord r .applies ≡ false → T (suffices r)
       go (ran ts) e = tt
-      go (short k) e = absurd (let z : _≡_ {A = ℕ} 0 1 = cc in let n : ⊥ = omega arith in n)
+      go (short k) e = clash cc
 
   module _ (g : RollablePlan (2 ^ 64) plan) (w : AllBelow (2 ^ 64) words) where
     by-lemire : (Read : List ℕ → Type 0) → Read (rollsOf 64 plan (trace (run 64 plan words start)))

@@ -28,14 +28,14 @@ use Rattle.draws.proofs.Plans.{countup-length, no-bounds, countdown-at, shuffle
 use Rattle.draws.proofs.Runs.{InRuns}
 use Rattle.draws.proofs.Each.{countup-distinct}
 use Rattle.draws.proofs.Orders.{range-cons, shuffle-reorders, one-series}
-use Rattle.draws.proofs.Reach.{rolled-in-range, words-in-runs, shuffleRolls}
+use Rattle.draws.proofs.Reach.{range-split, rolled-in-range, words-in-runs, shuffleRolls}
 use Rattle.promises.specs.Contracts.{Operations, MeetsBack}
 use Rattle.promises.specs.Demand1.{firstOf}
 use Rattle.promises.specs.Demand3.{Demand3At}
 use Rattle.promises.specs.StandIns.{FirstBatchOnly}
 use Rattle.promises.proofs.Refusing.{truth}
 use Rattle.promises.proofs.Model.{model, model-meets}
-use Rattle.promises.proofs.Naming.{plan-fits, range-split}
+use Rattle.promises.proofs.Naming.{plan-fits}
 use Rattle.promises.proofs.Demand1.{demand1}
 use Rattle.promises.proofs.Demand3.{model-produces, same-at, right-holds}
 

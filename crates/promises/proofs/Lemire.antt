@@ -1,10 +1,8 @@
 -- The paper's method as demand 2 states it, and the definitions of rolls: each says what the other says, at 64 bits. Assumes nothing.
 --
---   unfolded, unfolded-one     the rolls and the last r of a word have the equation, and no others have it
---   gives-iff, rejects-iff     accepted with these rolls; rejected
---   found-first, first-found   the word that a batch finds is the first accepted, and the other way round
---   follows-run                the run of a plan follows the method
---   run-follows                and what follows the method is that run
+--   gives-iff                  a word is accepted with these rolls exactly where it gives them
+--   Ran, RanAs, follows-run    the run of a plan follows the method
+--   RunBy, run-follows         and what follows the method is that run
 use mathlib.Core.Path.{_≡_, refl, sym, ap, ap₂, _∙_, subst}
 use mathlib.Core.Logic.{_↔_}
 use mathlib.Core.Bool.{Bool, true, false}
@@ -16,6 +14,7 @@ use lib.Arith.{digits-div, digits-mod}
 use lib.ListN.{length, take, drop, getD, length-drop, take-append-drop}
 use lib.Seq.{getD-drop, take-at, drop-at}
 use borrow.Author.Tests.{leb-true, leb-false, le-leb, lt-leb}
+use Rattle.arithmetic.proofs.Limits.{clash}
 use Rattle.arithmetic.specs.Rolls.{rolls, rest, product, value, threshold, accepted}
 use Rattle.arithmetic.proofs.Rolls.{key-law, rest-below, rolls-length, rolls-in-range, value-one}
 use Rattle.rolls.specs.Run.{Taken, Found, found, missing, find, Run, ran, short, after, runFrom, rollsOf, next, rejected}
@@ -28,11 +27,11 @@ use Rattle.promises.specs.Demand2.{Unfolded, Gives, Rejects, First, Foll
 -- ---- one word
 
 module _ (bs : List ℕ) (p : 0 < product bs) (w : ℕ) (h : w < 2 ^ 64) where
-  pub unfolded : Unfolded bs w (rolls 64 bs w) (rest 64 bs w)
+  unfolded : Unfolded bs w (rolls 64 bs w) (rest 64 bs w)
   unfolded = record { range = rolls-in-range 64 bs w p h; rest = rest-below 64 bs w h; law = key-law 64 bs w }
 
   -- two ways to write a number with a rest below 2^64
-  pub unfolded-one : (rs : List ℕ) (r : ℕ) → Unfolded bs w rs r → (rolls 64 bs w ≡ rs) × (rest 64 bs w ≡ r)
+  unfolded-one : (rs : List ℕ) (r : ℕ) → Unfolded bs w rs r → (rolls 64 bs w ≡ rs) × (rest 64 bs w ≡ r)
   unfolded-one rs r u =
       let below : rest 64 bs w < 2 ^ 64 = rest-below 64 bs w h in
       let same : value bs (rolls 64 bs w) * 2 ^ 64 + rest 64 bs w ≡ value bs rs * 2 ^ 64 + r = omega (arith, key-law 64 bs w, u .law) in (
@@ -47,7 +46,7 @@ module _ (bs : List ℕ) (p : 0 < product bs) (w : ℕ) (h : w < 2 ^ 64) where
     λ (t, e). (rest 64 bs w, subst (λ (l : List ℕ). Unfolded bs w l (rest 64 bs w)) e unfolded, leb-true (threshold 64 (product bs)) (rest 64 bs w) t),
   )
 
-  pub rejects-iff : Rejects bs w ↔ (accepted 64 bs w ≡ false)
+  rejects-iff : Rejects bs w ↔ (accepted 64 bs w ≡ false)
   rejects-iff = (
     λ (rs, r, u, t). lt-leb (threshold 64 (product bs)) (rest 64 bs w) (rw (unfolded-one rs r u .1) t),
     λ t. (rolls 64 bs w, rest 64 bs w, unfolded, leb-false (threshold 64 (product bs)) (rest 64 bs w) t),
@@ -64,7 +63,7 @@ record At (test : ℕ → Bool) (ws : List ℕ) (place : ℕ) (t : Taken) : Type
 
 found-at : (test : ℕ → Bool) (ws : List ℕ) (place : ℕ) (t : Taken) → find test ws place ≡ found t → At test ws place t
 unfolding find
-found-at test [] place t h = absurd (let z : _≡_ {A = ℕ} 0 1 = cc in let n : ⊥ = omega arith in n)
+found-at test [] place t h = clash cc
 found-at test (w ∷ ws) place t h = go (test w) refl (found-at test ws (place + 1) t)
   where
     go : (b : Bool) → test w ≡ b → (find test ws (place + 1) ≡ found t → At test ws (place + 1) t) → At test (w ∷ ws) place t
@@ -97,7 +96,7 @@ found-at test (w ∷ ws) place t h = go (test w) refl (found-at test ws (place +
         passed (suc i) l b = b i (le-of-suc-le-suc l)
 
 module _ (bs words : List ℕ) (p : 0 < product bs) (w : AllBelow (2 ^ 64) words) where
-  pub found-first : (from : ℕ) (t : Taken) → from ≤ length words → find (accepted 64 bs) (drop from words) from ≡ found t
+  found-first : (from : ℕ) (t : Taken) → from ≤ length words → find (accepted 64 bs) (drop from words) from ≡ found t
       → First bs words from (t .place) (rolls 64 bs (t .word))
   found-first from t l e =
       let a = found-at (accepted 64 bs) (drop from words) from t e in
@@ -115,7 +114,7 @@ module _ (bs words : List ℕ) (p : 0 < product bs) (w : AllBelow (2 ^ 64) words
             rejects-iff bs p (getD words i 0) (w i (omega arith)) .1 missed;
       }
 
-  pub first-found : (from place : ℕ) (rs : List ℕ) → First bs words from place rs
+  first-found : (from place : ℕ) (rs : List ℕ) → First bs words from place rs
       → (find (accepted 64 bs) (drop from words) from ≡ found (record { place = place; word = getD words place 0 }))
       × (rolls 64 bs (getD words place 0) ≡ rs)
   first-found from place rs f = (

@@ -1,15 +1,12 @@
 -- The runs of words behind an order, as two operations name them. An order of different records is an order of their places: a shuffle
 -- moves records as it moves their places, so the rolls behind the places are the rolls behind the records. Assumes nothing.
 --
---   plan-fits                 the batches of a shuffle can be rolled
---   Reads, reads-shuffle      a list of records read by their places, and that a shuffle keeps it so
---   places-length, places-at   the places of records, one by one
---   places-order              the places of an order of different records are an order of 0 .. n - 1
---   rolls-same                with the same rolls behind it
---   order-done, rolls-named   which are those that the operation gives
---   run-named, run-full       the run of a batch, as the operation gives it, and its length
---   range-split               rolls in range, batch by batch
---   runs-full, runs-in        the runs of a plan, as the operation gives them
+--   plan-fits                    the batches of a shuffle can be rolled
+--   places-length, places-at     the places of records, one by one
+--   order-done                   the rolls behind an order, as the definitions give them
+--   rolls-named                  the rolls behind the places of an order, as the operation gives them: those that are looked up in the records
+--   runOf, run-named, run-full   the run of a batch, as the operation gives it, and its length
+--   runs-full, runs-in           the runs of a plan, as the operation gives them
 use mathlib.Core.Path.{_≡_, refl, sym, ap, _∙_, subst}
 use mathlib.Core.Logic.{_↔_}
 use mathlib.Core.Bool.{false, not}
@@ -24,7 +21,7 @@ use lib.Seq.{ext-getD}
 use borrow.Author.Tests.{le-ltb, ne-eqb}
 use Rattle.arithmetic.specs.Rolls.{product, inRange, firstWord, lastWord, hasZero}
 use Rattle.arithmetic.specs.Width.{size64}
-use Rattle.arithmetic.proofs.Rolls.{in-range-cons, product-pos-head, product-pos-tail}
+use Rattle.arithmetic.proofs.Rolls.{product-pos-head, product-pos-tail}
 use Rattle.arithmetic.proofs.Words.{first-last, last-fits, run-length}
 use Rattle.rolls.specs.Outcome.{done}
 use Rattle.rolls.proofs.Deciding.{decide-past, decide-none, in-count}
@@ -38,6 +35,7 @@ use Rattle.draws.specs.Operations.{rollsBehind}
 use Rattle.draws.proofs.Plans.{countup-length, countup-at, shuffle-bounds-length, sizes-more, sizes64, shuffle-plan}
 use Rattle.draws.proofs.Orders.{length-exchange, exchange-first, exchange-last, exchange-other, place-of, range-cons, length-shuffle, one-series}
 use Rattle.draws.proofs.Runs.{InRuns}
+use Rattle.draws.proofs.Reach.{range-split}
 use Rattle.draws.proofs.Each.{order-iff, rolls-behind}
 use Rattle.rolls.specs.declared.answer.Behind.{Behind}
 use Rattle.promises.specs.Contracts.{Operations, seen, MeetsBack}
@@ -122,7 +120,7 @@ module _ (xs ys : List ℕ) (d : Distinct xs) (o : Reorders xs ys) where
   places-count : length (places xs ys) ≡ length xs
   places-count = places-length xs ys ∙ o .same-length
 
-  pub places-order : T (isOrder (places xs ys))
+  places-order : T (isOrder (places xs ys))
   places-order = order-iff (places xs ys) .1 (
     λ i h. let k : i < length ys = rw places-length at h in rw (places-at xs ys i k, places-count) (stands i k .0),
     λ i j hi hj e.
@@ -132,7 +130,7 @@ module _ (xs ys : List ℕ) (d : Distinct xs) (o : Reorders xs ys) where
         o .distinct i j ki kj (sym (stands i ki .1) ∙ ap (record-at xs) same ∙ stands j kj .1),
   )
 
-  pub rolls-same : rollsInto (length xs) (countup (length xs) 0) (places xs ys) ≡ rollsInto (length xs) xs ys
+  rolls-same : rollsInto (length xs) (countup (length xs) 0) (places xs ys) ≡ rollsInto (length xs) xs ys
   rolls-same = one-series xs ys d o .unique rs (only .in-range) gives
     where
       rs : List ℕ
@@ -195,15 +193,6 @@ run-named op meets bs rs b i =
     meets .words-behind bs rs
     ∙ behind-found bs rs (in-count 1 16 (length bs) (b .some) (b .few)) (pos-no-zero bs (b .positive)) (le-ltb (2 ^ 64) (product bs) (b .fits))
     (truth (inRange bs rs) i)
-
-pub range-split : (bs cs rs : List ℕ) → T (inRange (bs ++ cs) rs) → T (inRange bs (take (length bs) rs)) × T (inRange cs (drop (length bs) rs))
-unfolding inRange
-range-split [] cs rs i = (tt, i)
-range-split (b ∷ bs) cs [] i = absurd i
-range-split (b ∷ bs) cs (r ∷ rs) i =
-    let h = in-range-cons b (bs ++ cs) r rs .0 i in
-    let s = range-split bs cs rs (h .1) in
-    (in-range-cons b bs r (take (length bs) rs) .1 (h .0, s .0), s .1)
 
 module _ (op : Operations) (meets : MeetsBack op) where
   pub runs-full : (plan : List (List ℕ)) (rs : List ℕ) → RollablePlan (2 ^ 64) plan → T (inRange (joined plan) rs)

@@ -1,7 +1,6 @@
 -- The first refusal of a list, over every operation. Assumes nothing.
 --
 --   truth                       a test that holds is true
---   first-here, first-past      the first of a list, by the test of its head
 --   as-refused                  a refusal is the first one, alone, whatever an operation's answer looks like
 --   allowed-cons, allowed-done  where no refusal applies: none of the list does, and the outcome is not refused
 use mathlib.Core.Path.{_≡_, refl, sym, ap, _∙_}
@@ -10,6 +9,7 @@ use mathlib.Core.List.{List, [], _∷_}
 use Prim.Native.Nat.{ℕ}
 use native.Mathlib.Omega.{arith}
 use lib.Dec.{T}
+use Rattle.arithmetic.proofs.Limits.{clash}
 use Rattle.rolls.specs.Outcome.{Outcome, refused, Refusal, decide}
 use Rattle.rolls.proofs.Deciding.{decide-here, decide-past, decide-none}
 use Rattle.promises.specs.Demand1.{firstOf, AsRefused}
@@ -20,11 +20,11 @@ truth true t = refl
 truth false t = absurd t
 
 module _ (r : Refusal) (rs : List Refusal) where
-  pub first-here : r .applies ≡ true → firstOf (r ∷ rs) ≡ r
+  first-here : r .applies ≡ true → firstOf (r ∷ rs) ≡ r
   unfolding firstOf
   first-here e = ap (λ (b : Bool). elim b as (λ x. Refusal) [ true ↦ r | false ↦ firstOf rs ]) e
 
-  pub first-past : r .applies ≡ false → firstOf (r ∷ rs) ≡ firstOf rs
+  first-past : r .applies ≡ false → firstOf (r ∷ rs) ≡ firstOf rs
   unfolding firstOf
   first-past e = rw (e, firstOf)
 
@@ -59,7 +59,7 @@ allowed-cons r rs a = go (r .applies) refl
     go : (b : Bool) → r .applies ≡ b → (r .applies ≡ false) × Allowed rs
     go true e =
         let z : _≡_ {A = Bool} true false = sym e ∙ ap (λ (x : Refusal). x .applies) (sym (first-here r rs e)) ∙ a in
-        absurd (let n : _≡_ {A = ℕ} 0 1 = cc in let f : ⊥ = omega arith in f)
+        clash cc
     go false e = (e, ap (λ (x : Refusal). x .applies) (sym (first-past r rs e)) ∙ a)
 
 pub allowed-done : (rs : List Refusal) (o : Outcome) → Allowed rs → decide rs o ≡ o

@@ -9,6 +9,7 @@
 --   gives L bs word rs     whether the word is accepted at width L and gives these rolls
 --   all cs                 whether every entry is true
 --   table                  the starred lines
+--   Examples               the statement: every line is true
 use mathlib.Core.Bool.{Bool, true, false, not, _&&_}
 use mathlib.Core.List.{List, [], _∷_}
 use Prim.Native.Nat.{ℕ, _+_, _-_, _^_}

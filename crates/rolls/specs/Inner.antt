@@ -3,8 +3,8 @@
 --   passes b t w           the test of a word by the low half of b * w, with b the product at 64 bits and t the threshold
 --   searched start found   a search's answer: the word, its place, and how many words from the start were rejected
 --   supplied start ran     whether the words suffice: the place after the last and the count of rejected, or the batch that got none
---   begins plan            the first batch of a plan
 --   runBehind L b a        the answer for the run of words behind the value a of a batch with product b
+--   begins plan            the first batch of a plan
 --   cutAt bs at            where the batch that begins at a place of the list ends, and its product
 use mathlib.Core.Bool.{Bool}
 use mathlib.Core.List.{List, [], _∷_}

@@ -3,7 +3,7 @@
 --   rollBatch W words start bs        one batch
 --   rollList W words start bs room    a list of bounds, with room for so many rolls
 --   wordsBehind W bs rs               the first and the last word behind rolls
---   batchRefusals ..                  the numbers that an operation can meet, in the order of the paper, each with its test
+--   batchRefusals, listRefusals, behindRefusals    the numbers that each can meet, in the order of the paper, with their tests
 use mathlib.Core.Bool.{not}
 use mathlib.Core.List.{List, [], _∷_}
 use Prim.Native.Nat.{ℕ, _^_}

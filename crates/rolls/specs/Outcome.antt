@@ -1,16 +1,18 @@
 -- What comes of an operation, for every operation alike: a refusal, or its values; and what the caller then sees.
 --
---   Outcome                     refused by a number, with the batch that got no word (0 for numbers other than 10); or done: the values,
---                               the place after the last word used, the count of rejected words
---   Refusal                     a number, the batch that it names, and whether it applies
---   no n test                   the number n, which applies where the test holds
---   noWord ran                  number 10, which applies where the words ended before some batch had an accepted word
---   decide refusals outcome     the first refusal that applies; where none does, the outcome
---   outside low high n          whether n is below low or above high
---   ofWords L plan words start  numbers 9 and 10, of an operation that takes words from the start on for the batches of a plan
+--   Outcome                              refused by a number, with the batch that got no word (0 for numbers other than 10); or done: the
+--                                        values, the place after the last word used, the count of rejected words
+--   Refusal                              a number, the batch that it names, and whether it applies
+--   no n test                            the number n, which applies where the test holds
+--   noWord ran                           number 10, which applies where the words ended before some batch had an accepted word
+--   decide refusals outcome              the first refusal that applies; where none does, the outcome
+--   outside low high n                   whether n is below low or above high
+--   ofWords L plan words start           numbers 9 and 10, of an operation that takes words from the start on for the batches of a plan
 --   fromRun L plan words start reading   what comes of the run of a plan: its rolls by their reading, and the words that it used
---   shown start outcome         the answer that the caller gets
---   left before outcome         what a lent list then holds, which held before
+--   shown start outcome                  the answer that the caller gets
+--   shownBatch start outcome             the same, of one batch
+--   shownBehind outcome                  the same, of the words behind rolls
+--   left before outcome                  what a lent list then holds, which held before
 use mathlib.Core.Bool.{Bool, true, false, _||_}
 use mathlib.Core.List.{List, [], _∷_, _++_}
 use Prim.Native.Nat.{ℕ, _-_}
@@ -35,7 +37,7 @@ no n test = record { number = n; batch = 0; applies = test }
 
 abbrev pub noWord : Run → Refusal
 noWord (ran ts) = no 10 false
-noWord (short k) = record { number = 10; batch = k; applies = true }
+noWord (short batch) = record { number = 10; batch = batch; applies = true }
 
 -- The lowest number that applies is given, and none is given otherwise.
 unfoldable pub decide : List Refusal → Outcome → Outcome

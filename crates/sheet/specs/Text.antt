@@ -3,7 +3,7 @@
 --   digits c n                  n in decimal, or its last c digits where it has more
 --   decimal n                   n in decimal, with no zeros in front; 0 is `0`
 --   line fields                 the fields, parted by one blank, and a line feed
---   drawText, refusedText, ..   the texts `draw`, `refused`, `early`, `late`
+--   drawText, refusedText, earlyText, lateText    the texts `draw`, `refused`, `early`, `late`
 --   drawLine n k used rejected  `draw`, the count of records, k, the words used, the words rejected
 --   slotLine w slot x           the number of the slot, from 1, its record x, and `early` for the first w slots, else `late`
 --   refusedLine number batch    `refused`, the number of the refusal, and the batch
