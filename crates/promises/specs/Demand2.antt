@@ -85,8 +85,7 @@ pub record FullRun (bs : List ℕ) (run : Behind) : Type 0 where
 
 pub record Demand2 (op : Operations) : Type 0 where
   pub roll-batch : (words : List ℕ) (start : ℕ) (bs : List ℕ) → AllBelow (2 ^ 64) words → Allowed (batchRefusals w64 words start bs)
-      → let a : Batch = op .roll-batch words start bs in
-      (a .no ≡ 0) × (a .count ≡ length bs)
+      → let a : Batch = op .roll-batch words start bs in (a .no ≡ 0) × (a .count ≡ length bs)
       × Lemire (bs ∷ []) words start (a .next) (a .rejected) (λ rs. a .rolls ≡ rs ++ replicate (16 - length bs) 0)
   pub roll-list : (words : List ℕ) (start : ℕ) (bs lent : List ℕ) → AllBelow (2 ^ 64) words → AllBelow (2 ^ 64) bs
       → Allowed (listRefusals w64 words start bs (length lent)) → let (a, after) = op .roll-list words start bs lent in
