@@ -1,3 +1,4 @@
+pub mod Counting
 pub mod Each
 pub mod Inverse
 pub mod Marking

@@ -1,13 +1,13 @@
 -- Orders of different records and series of rolls: each series in range gives an order, and each order comes from one series, the one
 -- that is looked up. The batches play no part: a shuffle is one flat series with the bounds n, n - 1, .., 2. Assumes nothing.
 --
---   Among                                            a record stands in a list
 --   length-exchange, exchange-last,                  what stands where after an exchange
 --     exchange-first, exchange-other
 --   place-of                                         the place of a record that stands at one place
 --   range-cons                                       one roll in range of a shuffle's bounds
 --   length-shuffle                                   a shuffle keeps the number of records
 --   shuffle-reorders                                 each series of rolls in range gives an order of the records
+--   Reordered, reordered                             an order of different records, place by place
 --   Midway, midway-start, midway-roll, midway-step   shuffled into an order from the end down to a place
 --   rolls-into-step, rolls-into-none                 one roll behind an order; none for 0 or 1 record
 --   rolls-into-length                                how many rolls are behind an order
@@ -30,10 +30,7 @@ use Rattle.arithmetic.proofs.Rolls.{in-range-cons}
 use Rattle.draws.specs.Shuffle.{exchange, shuffleWith, shuffleBounds}
 use Rattle.draws.specs.Order.{placeOf, rollsInto, Distinct, Reorders, Only}
 use Rattle.draws.proofs.Plans.{no-bounds, bounds-cons}
-
--- x stands in xs
-abbrev pub Among : ℕ → List ℕ → Type 0
-Among x xs = (p : ℕ) × (p < length xs) × (getD xs p 0 ≡ x)
+use Rattle.draws.proofs.Counting.{Among, counted, count-among, count-exchange, distinct-once, once-distinct, reorders-length}
 
 -- ---- an exchange
 
@@ -72,11 +69,6 @@ module _ (xs : List ℕ) (i j : ℕ) (hi : i < length xs) (hj : j < length xs) w
       go (yes e) d = record { from = i; fits = hi; same = rw e (exchange-last xs i j hj); back = rw e (exchange-first xs i j hi) }
       go (no e) (yes f) = record { from = j; fits = hj; same = rw f (exchange-first xs i j hi); back = rw f (exchange-last xs i j hj) }
       go (no e) (no f) = record { from = k; fits = hk; same = exchange-other xs i j k f e; back = exchange-other xs i j k f e }
-
-  among-before : (x : ℕ) → Among x (exchange xs i j) → Among x xs
-  among-before x (p, h, e) =
-      let w = swapped p (rw length-exchange at h) in
-      (w .from, w .fits, sym (w .same) ∙ e)
 
   among-after : (x : ℕ) → Among x xs → Among x (exchange xs i j)
   among-after x (p, h, e) =
@@ -138,37 +130,41 @@ kept m (r ∷ rs) xs k i h =
 
 -- ---- each series gives an order
 
-pub shuffle-reorders : (m : ℕ) (rs xs : List ℕ) → m ≤ length xs → T (inRange (shuffleBounds m) rs) → Distinct xs
-    → Reorders xs (shuffleWith m rs xs)
+pub shuffle-reorders : (m : ℕ) (rs xs : List ℕ) → m ≤ length xs → T (inRange (shuffleBounds m) rs) → Reorders xs (shuffleWith m rs xs)
 unfolding shuffleWith
-shuffle-reorders m [] xs h i d = record { same-length = refl; among = λ k hk. (k, hk, refl); distinct = d }
-shuffle-reorders m (r ∷ rs) xs h i d =
+shuffle-reorders m [] xs h i x = refl
+shuffle-reorders m (r ∷ rs) xs h i x =
     let b = range-cons m r rs .0 i in
-    let hr : r < length xs = omega (arith, b .1) in
-    let hm : m - 1 < length xs = omega (arith, b .0) in
-    let o =
-    shuffle-reorders (m - 1) rs (exchange xs r (m - 1)) (rw length-exchange (omega arith)) (b .2)
-    (exchange-distinct xs r (m - 1) hr hm d) in
-    record {
-      same-length = o .same-length ∙ length-exchange xs r (m - 1);
-      among = λ k hk. among-before xs r (m - 1) hr hm _ (o .among k hk);
-      distinct = o .distinct;
-    }
+    shuffle-reorders (m - 1) rs (exchange xs r (m - 1)) (rw length-exchange (omega arith)) (b .2) x
+    ∙ count-exchange x xs r (m - 1) (omega (arith, b .1)) (omega (arith, b .0))
 
 -- ---- each order comes from one series
+
+-- an order of different records, place by place
+pub record Reordered (xs ys : List ℕ) : Type 0 where
+  pub same-length : length ys ≡ length xs
+  pub among : (i : ℕ) → i < length ys → Among (getD ys i 0) xs
+  pub distinct : Distinct ys
+
+pub reordered : (xs ys : List ℕ) → Distinct xs → Reorders xs ys → Reordered xs ys
+reordered xs ys d r = record {
+  same-length = reorders-length xs ys r;
+  among = λ i h. let y : ℕ = getD ys i 0 in count-among y xs (omega (arith, r y, counted y ys i h refl));
+  distinct = once-distinct ys (λ x. omega (arith, r x, distinct-once xs d x));
+}
 
 -- shuffled from the end down to place m: the places from m on are as ys has them
 pub record Midway (m : ℕ) (xs ys : List ℕ) : Type 0 where
   pub fits : m ≤ length xs
   pub distinct : Distinct xs
-  pub reorders : Reorders xs ys
+  pub reorders : Reordered xs ys
   pub settled : (k : ℕ) → m ≤ k → k < length xs → getD xs k 0 ≡ getD ys k 0
 
 pub midway-start : (xs ys : List ℕ) → Distinct xs → Reorders xs ys → Midway (length xs) xs ys
 midway-start xs ys d r = record {
   fits = le-refl (length xs);
   distinct = d;
-  reorders = r;
+  reorders = reordered xs ys d r;
   settled = λ k h l. absurd (let z : ⊥ = omega arith in z);
 }
 

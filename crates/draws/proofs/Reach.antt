@@ -7,7 +7,8 @@
 --   words-in-runs              one word for each batch: the run gives the rolls exactly when each word lies in its run
 --   shuffleRun, shuffleRolls   the run of a shuffle, and its rolls
 --   shuffle-gives              a shuffle gives an order exactly when each batch got its word and the rolls give the order
---   shuffle-in-runs64          one word for each batch, at 64 bits: the shuffle gives the order exactly when each word lies in its run
+--   shuffle-in-runs            one word for each batch: the shuffle gives the order exactly when each word lies in its batch's run
+--   shuffle-in-runs64          the same, at 64 bits
 use mathlib.Core.Path.{_≡_, refl, sym, ap, ap₂, _∙_, subst}
 use mathlib.Core.Logic.{_↔_}
 use mathlib.Core.Bool.{Bool, true, false}
@@ -182,7 +183,7 @@ shuffle-gives W words start xs ys h k =
     rw (le-ltb (length xs) 0 (omega arith), le-ltb 16384 (length xs) h, le-ltb (length words) start k)
     (gives-run (shuffleWith (length xs) (shuffleRolls W words start xs) xs) ys _ _ (shuffleRun W words start xs))
 
-shuffle-in-runs : (W : Width) → GoodSizes (W .size) (2 ^ W .bits) 16384 → (xs ys words : List ℕ) → length xs ≤ 16384
+pub shuffle-in-runs : (W : Width) → GoodSizes (W .size) (2 ^ W .bits) 16384 → (xs ys words : List ℕ) → length xs ≤ 16384
     → Distinct xs → Reorders xs ys → length words ≡ length (shufflePlan (W .size) (length xs)) → AllBelow (2 ^ W .bits) words
     → DoneWith ys (shuffle W words 0 xs) ↔ InRuns (W .bits) (shufflePlan (W .size) (length xs)) (rollsInto (length xs) xs ys) words
 shuffle-in-runs W z xs ys words h d o n w =

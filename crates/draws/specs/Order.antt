@@ -48,10 +48,9 @@ AllBelow top xs = (i : ℕ) → i < length xs → getD xs i 0 < top
 abbrev pub Distinct : List ℕ → Type 0
 Distinct xs = (i j : ℕ) → i < length xs → j < length xs → getD xs i 0 ≡ getD xs j 0 → i ≡ j
 
-pub record Reorders (xs ys : List ℕ) : Type 0 where
-  pub same-length : length ys ≡ length xs
-  pub among : (i : ℕ) → i < length ys → (p : ℕ) × (p < length xs) × (getD xs p 0 ≡ getD ys i 0)
-  pub distinct : Distinct ys
+-- Every record stands in the one as often as in the other.
+abbrev pub Reorders : List ℕ → List ℕ → Type 0
+Reorders xs ys = (x : ℕ) → count x ys ≡ count x xs
 
 pub record Only (m : ℕ) (xs ys rs : List ℕ) : Type 0 where
   pub in-range : T (inRange (shuffleBounds m) rs)

@@ -26,7 +26,7 @@ use Rattle.draws.specs.Sample.{countup}
 use Rattle.draws.specs.Plan.{joined}
 use Rattle.draws.specs.Operations.{shuffle}
 use Rattle.draws.proofs.Plans.{countup-length, countup-at}
-use Rattle.draws.proofs.Orders.{place-of, length-shuffle, one-series}
+use Rattle.draws.proofs.Orders.{Reordered, reordered, place-of, length-shuffle, one-series}
 use Rattle.draws.proofs.Each.{countup-distinct}
 use Rattle.draws.proofs.OneShuffle.{whole-list}
 use Rattle.draws.proofs.Reach.{shuffleRun, shuffleRolls, shuffle-gives, shuffle-in-runs64}
@@ -108,8 +108,11 @@ pub demand3 : HoldsDemand3
 demand3 op m n h = same-at op (m .back) n h (λ xs ys words e w. rw (m .shuffle words 0 xs) (λ p. p, λ p. p))
 
 pub own-places : OwnPlaces
-own-places n ys o = ext-getD 0 (places (countup n 0) ys) ys (places-length (countup n 0) ys) at
+own-places n ys r = ext-getD 0 (places (countup n 0) ys) ys (places-length (countup n 0) ys) at
   where
+    o : Reordered (countup n 0) ys
+    o = reordered (countup n 0) ys (countup-distinct n) r
+
     at : (i : ℕ) → i < length (places (countup n 0) ys) → getD (places (countup n 0) ys) i 0 ≡ getD ys i 0
     at i h =
         let k : i < length ys = rw places-length at h in

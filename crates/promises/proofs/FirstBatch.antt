@@ -157,7 +157,7 @@ module _ (op : Operations) (f : FirstBatchOnly op) (b : MeetsBack op) where
       let made = model-produces words xs (shuffleWith n (shuffleRolls w64 words 0 xs) xs) high .1 (t, refl) in
       let allowed : op .shuffle words 0 xs .0 .no ≡ 0 = same-number words xs ∙ made .0 in
       let ys : List ℕ = shuffleWith n own xs in
-      let reorders = shuffle-reorders n own xs (le-refl n) own-in d in
+      let reorders = shuffle-reorders n own xs (le-refl n) own-in in
       let given : op .shuffle words 0 xs .1 ≡ ys =
       f .moves words 0 xs allowed ∙ ap (λ (l : List ℕ). shuffleWith n (take s l) xs) e
       ∙ ap (λ (l : List ℕ). shuffleWith n l xs) (take-mixed s (n - 1) n (omega arith)) ∙ sym (mixed-shuffles s n xs) in

@@ -33,7 +33,7 @@ use Rattle.draws.specs.Order.{isOrder, placeOf, rollsInto, Distinct, Reorders, 
 use Rattle.draws.specs.Plan.{joined, Rollable, RollablePlan, PlanOf}
 use Rattle.draws.specs.Operations.{rollsBehind}
 use Rattle.draws.proofs.Plans.{countup-length, countup-at, shuffle-bounds-length, sizes-more, sizes64, shuffle-plan}
-use Rattle.draws.proofs.Orders.{length-exchange, exchange-first, exchange-last, exchange-other, place-of, range-cons, length-shuffle, one-series}
+use Rattle.draws.proofs.Orders.{Reordered, reordered, length-exchange, exchange-first, exchange-last, exchange-other, place-of, range-cons, length-shuffle, one-series}
 use Rattle.draws.proofs.Runs.{InRuns}
 use Rattle.draws.proofs.Reach.{range-split}
 use Rattle.draws.proofs.Each.{order-iff, rolls-behind}
@@ -110,7 +110,10 @@ order-done ys room h k t =
     decide-past _ _ _ (in-count 0 16384 (length ys) zero-le h) ∙ decide-past _ _ _ (le-ltb room (length ys - 1) k)
     ∙ decide-past _ _ _ (ap not (truth (isOrder ys) t)) ∙ decide-none _
 
-module _ (xs ys : List ℕ) (d : Distinct xs) (o : Reorders xs ys) where
+module _ (xs ys : List ℕ) (d : Distinct xs) (r : Reorders xs ys) where
+  o : Reordered xs ys
+  o = reordered xs ys d r
+
   stands : (i : ℕ) → i < length ys → (placeOf (getD ys i 0) xs < length xs) × (getD xs (placeOf (getD ys i 0) xs) 0 ≡ getD ys i 0)
   stands i hi =
       let a = o .among i hi in
@@ -131,7 +134,7 @@ module _ (xs ys : List ℕ) (d : Distinct xs) (o : Reorders xs ys) where
   )
 
   rolls-same : rollsInto (length xs) (countup (length xs) 0) (places xs ys) ≡ rollsInto (length xs) xs ys
-  rolls-same = one-series xs ys d o .unique rs (only .in-range) gives
+  rolls-same = one-series xs ys d r .unique rs (only .in-range) gives
     where
       rs : List ℕ
       rs = rollsInto (length xs) (countup (length xs) 0) (places xs ys)
@@ -160,7 +163,7 @@ module _ (xs ys : List ℕ) (d : Distinct xs) (o : Reorders xs ys) where
       let room : length lent ≡ length xs - 1 = length-replicate (length xs - 1) 0 in
       let values : List ℕ = rollsInto (length xs) xs ys in
       let count : length values ≡ length xs - 1 =
-      range-length (shuffleBounds (length xs)) values (truth _ (one-series xs ys d o .in-range)) ∙ shuffle-bounds-length (length xs) in
+      range-length (shuffleBounds (length xs)) values (truth _ (one-series xs ys d r .in-range)) ∙ shuffle-bounds-length (length xs) in
       let gives : rollsBehind order (length lent) ≡ done values 0 0 =
       order-done order (length lent) (omega (arith, places-count)) (omega (arith, places-count)) places-order
       ∙ ap (λ (l : List ℕ). done l 0 0) (rw places-count rolls-same) in

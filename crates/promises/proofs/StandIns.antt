@@ -128,7 +128,7 @@ nothing-3 op b m d =
     let xs : List ℕ = 0 ∷ 1 ∷ [] in
     let ys : List ℕ = 1 ∷ 0 ∷ [] in
     let h = lit≤ {m = 2} {n = 16384} tt in
-    let reorders = shuffle-reorders 2 (0 ∷ []) xs (lit≤ tt) tt (countup-distinct 2) in
+    let reorders = shuffle-reorders 2 (0 ∷ []) xs (lit≤ tt) tt in
     let w = one-word 0 (lit< tt) in
     let in-runs = right-holds op b 2 h xs ys refl (countup-distinct 2) reorders .2 (0 ∷ []) refl w .0 (refl, refl) in
     let (y, e) = d 2 h xs ys refl (countup-distinct 2) reorders .2 (0 ∷ []) refl w .1 in-runs in
