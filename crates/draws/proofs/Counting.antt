@@ -1,14 +1,11 @@
 -- How often numbers stand in a list. Assumes nothing.
 --
---   count-hit, count-miss             one number more in front
---   Among, counted, count-among       a number stands in a list exactly where it is counted
---   count-exchange                    an exchange changes no count
---   distinct-once, once-distinct      no two are alike exactly where each is counted once at most
---   total                             how often 0, .., n - 1 stand in a list, added up
---   total-most, total-all             at most the length; the length, where all are below n
---   total-below                       and where it is the length all are below n
---   total-same                        the same for an order of the list
---   reorders-length                   an order of a list is as long
+--   Among, counted, count-among    a number stands in a list exactly where it is counted
+--   count-exchange                 an exchange changes no count
+--   distinct-once, once-distinct   no two are alike exactly where each is counted once at most
+--   total                          how often 0, .., n - 1 stand in a list, added up
+--   total-all, total-below         it is the length exactly where all are below n
+--   reorders-length                an order of a list is as long
 use mathlib.Core.Path.{_≡_, refl, sym, ap, _∙_}
 use mathlib.Core.List.{List, [], _∷_}
 use Prim.Native.Nat.{ℕ, zero, suc, suc-le-suc, zero-le, _+_, _<_, _≤_}
@@ -27,11 +24,11 @@ Among x xs = (p : ℕ) × (p < length xs) × (getD xs p 0 ≡ x)
 
 -- ---- how often a number stands in a list
 
-pub count-hit : (x y : ℕ) (ys : List ℕ) → x ≡ y → count x (y ∷ ys) ≡ count x ys + 1
+count-hit : (x y : ℕ) (ys : List ℕ) → x ≡ y → count x (y ∷ ys) ≡ count x ys + 1
 unfolding count
 count-hit x y ys e = rw (eq-eqb x y e, count)
 
-pub count-miss : (x y : ℕ) (ys : List ℕ) → (x ≡ y → ⊥) → count x (y ∷ ys) ≡ count x ys
+count-miss : (x y : ℕ) (ys : List ℕ) → (x ≡ y → ⊥) → count x (y ∷ ys) ≡ count x ys
 unfolding count
 count-miss x y ys n = rw (ne-eqb x y n, count)
 
@@ -136,7 +133,7 @@ total-hit (suc i) y ys h = go (ℕ-discrete i y) (total-hit i y ys)
     go (yes e) ih = omega (arith, count-hit i y ys e, total-miss i y ys (omega arith))
     go (no n) ih = omega (arith, count-miss i y ys n, ih (omega arith))
 
-pub total-most : (n : ℕ) (ys : List ℕ) → total n ys ≤ length ys
+total-most : (n : ℕ) (ys : List ℕ) → total n ys ≤ length ys
 total-most n [] = omega (arith, total-nil n)
 total-most n (y ∷ ys) = go (decLt y n) (total-most n ys)
   where
@@ -157,7 +154,7 @@ total-below n (y ∷ ys) l i h = go (decLt y n) (total-below n ys) i h
     go (yes k) ih (suc i) h = ih (omega (arith, total-hit n y ys k)) i (le-of-suc-le-suc h)
     go (no k) ih i h = absurd (let z : ⊥ = omega (arith, total-miss n y ys (omega arith), total-most n ys) in z)
 
-pub total-same : (n : ℕ) (xs ys : List ℕ) → Reorders xs ys → total n ys ≡ total n xs
+total-same : (n : ℕ) (xs ys : List ℕ) → Reorders xs ys → total n ys ≡ total n xs
 unfolding total
 total-same zero xs ys r = refl
 total-same (suc i) xs ys r = omega (arith, r i, total-same i xs ys r)
