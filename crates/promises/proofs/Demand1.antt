@@ -26,6 +26,7 @@ use Rattle.rolls.specs.declared.answer.Behind.{Behind}
 use Rattle.sheet.specs.declared.run.Drawn.{Drawn}
 use Rattle.promises.specs.Contracts.{seen}
 use Rattle.promises.specs.Demand1.{AsRefused, HoldsDemand1}
+use Rattle.promises.proofs.Model.{met}
 use Rattle.promises.proofs.Refusing.{as-refused}
 
 -- ---- the batch that number 10 names
@@ -95,7 +96,7 @@ beside start lent refusals values next rejected got e =
     (done values next rejected) refl refusals got e
 
 pub demand1 : HoldsDemand1
-demand1 op m = record {
+demand1 op e = let m = met op e in record {
   roll-batch = λ words start bs. unfold rollBatch in
       as-refused (shownBatch start) (shownBatch start) (λ (a : Batch). a .no) (λ n b. refl) (λ n b. refl) _ refl
       (batchRefusals w64 words start bs) (op .roll-batch words start bs) (m .roll-batch words start bs);

@@ -39,8 +39,9 @@ use Rattle.sheet.specs.Operations.{sheetRefusals, runSheet, shownDrawn}
 use Rattle.sheet.proofs.OneSheet.{sheet-sample}
 use Rattle.rolls.specs.declared.answer.Batch.{Batch}
 use Rattle.rolls.specs.declared.answer.Behind.{Behind}
-use Rattle.promises.specs.Contracts.{Operations, seen, Meets}
+use Rattle.promises.specs.Contracts.{Operations, seen}
 use Rattle.promises.specs.Demand2.{Allowed, Gives, Lemire, FullRun, HoldsDemand2}
+use Rattle.promises.proofs.Model.{Met, met}
 use Rattle.promises.proofs.Refusing.{truth, allowed-cons, allowed-done}
 use Rattle.promises.proofs.Naming.{plan-fits, order-done, run-named, run-full}
 use Rattle.promises.proofs.Lemire.{gives-iff, RanAs, follows-run, run-follows}
@@ -151,7 +152,7 @@ sample-meets words start xs k lent w a =
 
 -- ---- a sheet
 
-module _ (op : Operations) (m : Meets op) where
+module _ (op : Operations) (m : Met op) where
   sheet-meets : (s lent : List ℕ) → Allowed (sheetRefusals w64 s (length lent))
       → let (a, slots) = op .sample (wordsOf s) 0 (recordsOf s) (numbers s .k) lent in
       let (d, after) = op .run-sheet s lent in
@@ -225,7 +226,7 @@ one-outcome plan words g w start m n r s xs ys a b =
     (ends, omega (arith, a .used, b .used), sym (a .reading) ∙ sym (x .rolled) ∙ ap (rollsOf 64 plan) same ∙ y .rolled ∙ b .reading)
 
 pub demand2 : HoldsDemand2
-demand2 op m = record {
+demand2 op e = let m = met op e in record {
   roll-batch = λ words start bs w a. rw (m .roll-batch words start bs) (batch-meets words start bs w a);
   roll-list = λ words start bs lent w b a. rw (m .roll-list words start bs lent) (list-meets words start bs lent w b a);
   shuffle = λ words start xs w a. rw (m .shuffle words start xs) (shuffle-meets words start xs w a);

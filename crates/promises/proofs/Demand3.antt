@@ -1,9 +1,9 @@
 -- Demand 3: a shuffle that is not refused holds its values, which are the order exactly when each word lies in its run; and the two
 -- operations name those runs. Assumes nothing.
 --
---   model-produces    what the shuffle of the definitions produces
---   same-at           the demand at n records, of a shuffle that produces there what the model does
---   right op          the operations op, but for the shuffle, which is the model's
+--   right-produces    what the shuffle of the definitions produces
+--   same-at           the demand at n records, of a shuffle that produces there what the contract says
+--   right op          the operations op, but for the shuffle, which is the contract's
 --   right-holds       the demand, of these
 --   demand3           the demand, up to 16,384 records
 --   own-places        the records 0 .. n - 1 are their own places
@@ -31,10 +31,10 @@ use Rattle.draws.proofs.Each.{countup-distinct}
 use Rattle.draws.proofs.OneShuffle.{whole-list}
 use Rattle.draws.proofs.Reach.{shuffleRun, shuffleRolls, shuffle-gives, shuffle-in-runs64}
 use Rattle.rolls.specs.declared.answer.Behind.{Behind}
-use Rattle.promises.specs.Contracts.{Operations, seen, MeetsBack}
+use Rattle.promises.specs.Contracts.{Operations, seen, contracts}
 use Rattle.promises.specs.Demand3.{Paired, places, runsNamed, InRun, Produces, Demand3At, Demand3, HoldsDemand3, OwnPlaces}
 use Rattle.promises.specs.Demand2.{FullRun}
-use Rattle.promises.proofs.Model.{model}
+use Rattle.promises.proofs.Model.{MetBack, met-back}
 use Rattle.promises.proofs.Naming.{plan-fits, places-length, places-at, rolls-named, runs-full, runs-in}
 
 -- not refused and these values, exactly when the words suffice and the values are these
@@ -44,18 +44,18 @@ unfolding decide
 holds-run (ran ts) values xs ys to more n = (λ (z, e). (tt, whole-list values xs n ∙ e), λ (t, e). (refl, sym (whole-list values xs n) ∙ e))
 holds-run (short k) values xs ys to more n = (λ (z, e). absurd (let f : ⊥ = omega arith in f), λ (t, e). absurd t)
 
-pub model-produces : (words xs ys : List ℕ) → length xs ≤ 16384
-    → Produces (model .shuffle words 0 xs) ys
+pub right-produces : (words xs ys : List ℕ) → length xs ≤ 16384
+    → Produces (contracts .shuffle words 0 xs) ys
     ↔ (T (suffices (shuffleRun w64 words 0 xs)) × (shuffleWith (length xs) (shuffleRolls w64 words 0 xs) xs ≡ ys))
 unfolding shuffle decide
-model-produces words xs ys h =
+right-produces words xs ys h =
     rw (le-ltb (length xs) 0 zero-le, le-ltb 16384 (length xs) h, le-ltb (length words) 0 zero-le)
     (holds-run (shuffleRun w64 words 0 xs) (shuffleWith (length xs) (shuffleRolls w64 words 0 xs) xs) xs ys _ _
     (length-shuffle (length xs) (shuffleRolls w64 words 0 xs) xs))
 
-module _ (op : Operations) (b : MeetsBack op) where
+module _ (op : Operations) (b : MetBack op) where
   for-order : (xs ys : List ℕ) → length xs ≤ 16384 → Distinct xs → Reorders xs ys
-      → ((words : List ℕ) → AllBelow (2 ^ 64) words → Produces (op .shuffle words 0 xs) ys ↔ Produces (model .shuffle words 0 xs) ys)
+      → ((words : List ℕ) → AllBelow (2 ^ 64) words → Produces (op .shuffle words 0 xs) ys ↔ Produces (contracts .shuffle words 0 xs) ys)
       → let plan : List (List ℕ) = shufflePlan size64 (length xs) in
       let (answer, rs) = op .rolls-behind (places xs ys) (replicate (length xs - 1) 0) in
       let runs : List Behind = runsNamed (op .words-behind) plan rs in
@@ -73,7 +73,7 @@ module _ (op : Operations) (b : MeetsBack op) where
         runs-full op b plan rs (good .rollable) range,
         λ words n w.
             let produces = same words w in
-            let holds = model-produces words xs ys h in
+            let holds = right-produces words xs ys h in
             let gives = shuffle-gives w64 words 0 xs ys h zero-le in
             let runs = shuffle-in-runs64 xs ys words h d r n w in
             let named = runs-in op b plan rs words (good .rollable) range in (
@@ -84,28 +84,30 @@ module _ (op : Operations) (b : MeetsBack op) where
 
   pub same-at : (n : ℕ) → n ≤ 16384
       → ((xs ys words : List ℕ) → length xs ≡ n → AllBelow (2 ^ 64) words
-      → Produces (op .shuffle words 0 xs) ys ↔ Produces (model .shuffle words 0 xs) ys)
+      → Produces (op .shuffle words 0 xs) ys ↔ Produces (contracts .shuffle words 0 xs) ys)
       → Demand3At op n
   same-at n h same xs ys e d r = rw (← e) (for-order xs ys (rw e h) d r (λ words w. same xs ys words e w))
 
--- the operations op, but for the shuffle, which is the model's
+-- the operations op, but for the shuffle, which is the contract's
 abbrev pub right : Operations → Operations
 right op = record {
   roll-batch = op .roll-batch;
   roll-list = op .roll-list;
-  shuffle = model .shuffle;
+  shuffle = contracts .shuffle;
   sample = op .sample;
   words-behind = op .words-behind;
   rolls-behind = op .rolls-behind;
   run-sheet = op .run-sheet;
 }
 
-pub right-holds : (op : Operations) → MeetsBack op → Demand3 (right op)
+pub right-holds : (op : Operations) → MetBack op → Demand3 (right op)
 right-holds op b n h =
     same-at (right op) (record { words-behind = b .words-behind; rolls-behind = b .rolls-behind }) n h (λ xs ys words e w. (λ p. p, λ p. p))
 
 pub demand3 : HoldsDemand3
-demand3 op m n h = same-at op (m .back) n h (λ xs ys words e w. rw (m .shuffle words 0 xs) (λ p. p, λ p. p))
+demand3 op s b n h =
+    same-at op (met-back op b) n h (λ xs ys words e w.
+    let same : op .shuffle words 0 xs ≡ contracts .shuffle words 0 xs = λ i. s i words 0 xs in rw same (λ p. p, λ p. p))
 
 pub own-places : OwnPlaces
 own-places n ys r = ext-getD 0 (places (countup n 0) ys) ys (places-length (countup n 0) ys) at

@@ -29,15 +29,15 @@ use Rattle.draws.proofs.Runs.{InRuns}
 use Rattle.draws.proofs.Each.{countup-distinct}
 use Rattle.draws.proofs.Orders.{range-cons, shuffle-reorders, one-series}
 use Rattle.draws.proofs.Reach.{range-split, rolled-in-range, words-in-runs, shuffleRolls}
-use Rattle.promises.specs.Contracts.{Operations, MeetsBack}
+use Rattle.promises.specs.Contracts.{Operations, contracts}
 use Rattle.promises.specs.Demand1.{firstOf}
 use Rattle.promises.specs.Demand3.{Demand3At}
 use Rattle.promises.specs.StandIns.{FirstBatchOnly}
 use Rattle.promises.proofs.Refusing.{truth}
-use Rattle.promises.proofs.Model.{model, model-meets}
+use Rattle.promises.proofs.Model.{MetBack}
 use Rattle.promises.proofs.Naming.{plan-fits}
 use Rattle.promises.proofs.Demand1.{demand1}
-use Rattle.promises.proofs.Demand3.{model-produces, same-at, right-holds}
+use Rattle.promises.proofs.Demand3.{right-produces, same-at, right-holds}
 
 -- ---- the first word of each run
 
@@ -131,13 +131,13 @@ size-large n h = go (leb n 512) refl (leb n 2048) refl
 
 -- ---- the demand
 
--- the number that the model gives is the first refusal's
-model-number : (words xs : List ℕ) → model .shuffle words 0 xs .0 .no ≡ firstOf (shuffleRefusals w64 words 0 (length xs)) .number
-model-number words xs = demand1 model model-meets .shuffle words 0 xs .lowest
+-- the number that the contract gives is the first refusal's
+right-number : (words xs : List ℕ) → contracts .shuffle words 0 xs .0 .no ≡ firstOf (shuffleRefusals w64 words 0 (length xs)) .number
+right-number words xs = demand1 contracts refl .shuffle words 0 xs .lowest
 
-module _ (op : Operations) (f : FirstBatchOnly op) (b : MeetsBack op) where
-  same-number : (words xs : List ℕ) → op .shuffle words 0 xs .0 .no ≡ model .shuffle words 0 xs .0 .no
-  same-number words xs = f .refuses words 0 xs ∙ sym (model-number words xs)
+module _ (op : Operations) (f : FirstBatchOnly op) (b : MetBack op) where
+  same-number : (words xs : List ℕ) → op .shuffle words 0 xs .0 .no ≡ contracts .shuffle words 0 xs .0 .no
+  same-number words xs = f .refuses words 0 xs ∙ sym (right-number words xs)
 
   goes-wrong : (xs : List ℕ) → Distinct xs → 8 ≤ length xs → length xs ≤ 16384 → Demand3At op (length xs) → ⊥
   goes-wrong xs d low high demand =
@@ -154,7 +154,7 @@ module _ (op : Operations) (f : FirstBatchOnly op) (b : MeetsBack op) where
       let below : AllBelow (2 ^ 64) words = firsts-below plan rs (good .rollable) (rw (good .same) range) in
       let count : length words ≡ length plan = firsts-count plan rs in
       let (t, e) = words-in-runs 64 plan rs words (good .rollable) (rw (good .same) range) count below .1 (firsts-in plan rs (good .rollable)) in
-      let made = model-produces words xs (shuffleWith n (shuffleRolls w64 words 0 xs) xs) high .1 (t, refl) in
+      let made = right-produces words xs (shuffleWith n (shuffleRolls w64 words 0 xs) xs) high .1 (t, refl) in
       let allowed : op .shuffle words 0 xs .0 .no ≡ 0 = same-number words xs ∙ made .0 in
       let ys : List ℕ = shuffleWith n own xs in
       let reorders = shuffle-reorders n own xs (le-refl n) own-in in
@@ -163,7 +163,7 @@ module _ (op : Operations) (f : FirstBatchOnly op) (b : MeetsBack op) where
       ∙ ap (λ (l : List ℕ). shuffleWith n l xs) (take-mixed s (n - 1) n (omega arith)) ∙ sym (mixed-shuffles s n xs) in
       let in-runs = demand xs ys refl d reorders .2 words count below .0 (allowed, given) in
       let truly = right-holds op b n high xs ys refl d reorders .2 words count below .1 in-runs in
-      let (u, g) = model-produces words xs ys high .0 truly in
+      let (u, g) = right-produces words xs ys high .0 truly in
       let one = one-series xs ys d reorders in
       let same : own ≡ rs = one .unique own own-in refl ∙ sym (one .unique rs range (ap (λ (l : List ℕ). shuffleWith n l xs) (sym e) ∙ g)) in
       mixed-differ s (n - 1) n (omega arith) (omega arith) same
@@ -174,13 +174,13 @@ module _ (op : Operations) (f : FirstBatchOnly op) (b : MeetsBack op) where
       goes-wrong (countup n 0) (countup-distinct n) (rw e low) (rw e high) (rw e demand)
 
   -- the rolls of one batch are all the rolls
-  same-list : (words xs : List ℕ) → length xs ≤ 7 → AllBelow (2 ^ 64) words → model .shuffle words 0 xs .0 .no ≡ 0 → op .shuffle words 0 xs .1 ≡ model .shuffle words 0 xs .1
+  same-list : (words xs : List ℕ) → length xs ≤ 7 → AllBelow (2 ^ 64) words → contracts .shuffle words 0 xs .0 .no ≡ 0 → op .shuffle words 0 xs .1 ≡ contracts .shuffle words 0 xs .1
   same-list words xs h w z =
       let n : ℕ = length xs in
       let plan : List (List ℕ) = shufflePlan size64 n in
       let rs : List ℕ = shuffleRolls w64 words 0 xs in
       let good = plan-fits n (omega arith) in
-      let (t, e) = model-produces words xs (model .shuffle words 0 xs .1) (omega arith) .0 (z, refl) in
+      let (t, e) = right-produces words xs (contracts .shuffle words 0 xs .1) (omega arith) .0 (z, refl) in
       let count : length rs ≡ length (joined plan) = range-length (joined plan) rs (truth _ (rolled-in-range 64 words w plan 0 0 (good .rollable) t)) in
       let all : take (size64 n) rs ≡ rs = take-all (size64 n) rs (omega (arith, ap length (good .same), shuffle-bounds-length n, size-small n h)) in
       f .moves words 0 xs (same-number words xs ∙ z) ∙ ap (λ (l : List ℕ). shuffleWith n l xs) all ∙ e

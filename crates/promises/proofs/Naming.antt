@@ -38,9 +38,10 @@ use Rattle.draws.proofs.Runs.{InRuns}
 use Rattle.draws.proofs.Reach.{range-split}
 use Rattle.draws.proofs.Each.{order-iff, rolls-behind}
 use Rattle.rolls.specs.declared.answer.Behind.{Behind}
-use Rattle.promises.specs.Contracts.{Operations, seen, MeetsBack}
+use Rattle.promises.specs.Contracts.{Operations, seen}
 use Rattle.promises.specs.Demand3.{Paired, places, runsNamed, InRun}
 use Rattle.promises.specs.Demand2.{FullRun}
+use Rattle.promises.proofs.Model.{MetBack}
 use Rattle.promises.proofs.Refusing.{truth}
 
 -- the batches of a shuffle can be rolled
@@ -155,7 +156,7 @@ module _ (xs ys : List ℕ) (d : Distinct xs) (r : Reorders xs ys) where
               ∙ ap (record-at xs) (ap (λ (l : List ℕ). getD l i 0) (only .gives) ∙ places-at xs ys i k)
               ∙ stands i k .1
 
-  pub rolls-named : (op : Operations) → MeetsBack op → length xs ≤ 16384
+  pub rolls-named : (op : Operations) → MetBack op → length xs ≤ 16384
       → op .rolls-behind (places xs ys) (replicate (length xs - 1) 0) ≡ (record { no = 0; next = 0; rejected = 0; batch = 0 }, rollsInto (length xs) xs ys)
   rolls-named op m h =
       let order : List ℕ = places xs ys in
@@ -186,18 +187,17 @@ runOf bs rs = record { no = 0; next = 0; rejected = 0; first = firstWord 64 bs r
 pub run-full : (bs rs : List ℕ) → Rollable (2 ^ 64) bs → T (inRange bs rs) → FullRun bs (runOf bs rs)
 run-full bs rs b i = record {
   named = (refl, refl, refl);
-  some = first-last 64 bs rs (b .positive) (b .fits);
-  words = last-fits 64 bs rs (b .positive) (b .fits) i;
+  words = (first-last 64 bs rs (b .positive) (b .fits), last-fits 64 bs rs (b .positive) (b .fits) i);
   long = run-length 64 bs rs (b .positive) (b .fits);
 }
 
-pub run-named : (op : Operations) → MeetsBack op → (bs rs : List ℕ) → Rollable (2 ^ 64) bs → T (inRange bs rs) → op .words-behind bs rs ≡ runOf bs rs
+pub run-named : (op : Operations) → MetBack op → (bs rs : List ℕ) → Rollable (2 ^ 64) bs → T (inRange bs rs) → op .words-behind bs rs ≡ runOf bs rs
 run-named op meets bs rs b i =
     meets .words-behind bs rs
     ∙ behind-found bs rs (in-count 1 16 (length bs) (b .some) (b .few)) (pos-no-zero bs (b .positive)) (le-ltb (2 ^ 64) (product bs) (b .fits))
     (truth (inRange bs rs) i)
 
-module _ (op : Operations) (meets : MeetsBack op) where
+module _ (op : Operations) (meets : MetBack op) where
   pub runs-full : (plan : List (List ℕ)) (rs : List ℕ) → RollablePlan (2 ^ 64) plan → T (inRange (joined plan) rs)
       → Paired FullRun plan (runsNamed (op .words-behind) plan rs)
   unfolding joined runsNamed

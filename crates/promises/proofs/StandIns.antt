@@ -22,12 +22,12 @@ use Rattle.sheet.specs.Sheet.{little, entries}
 use Rattle.draws.proofs.Each.{countup-distinct}
 use Rattle.draws.proofs.Orders.{shuffle-reorders}
 use Rattle.sheet.specs.declared.run.Drawn.{Drawn}
-use Rattle.promises.specs.Contracts.{Operations, MeetsBack}
+use Rattle.promises.specs.Contracts.{Operations, contracts, MeetsBack}
 use Rattle.promises.specs.Demand1.{firstOf}
 use Rattle.promises.specs.Demand2.{Allowed, Lemire, Demand2}
 use Rattle.promises.specs.Demand3.{Demand3}
 use Rattle.promises.specs.StandIns.{MovesNothing, FirstBatchOnly, Invented, HoldsStandIns}
-use Rattle.promises.proofs.Model.{model, model-meets}
+use Rattle.promises.proofs.Model.{MetBack, met-back}
 use Rattle.promises.proofs.Naming.{plan-fits}
 use Rattle.promises.proofs.Demand1.{demand1}
 use Rattle.promises.proofs.Demand2.{one-outcome, demand2}
@@ -53,11 +53,11 @@ module _ (plan : List (List ℕ)) (words : List ℕ) (g : RollablePlan (2 ^ 64) 
 
 module _ (op : Operations) (demand : Demand2 op) where
   pinned : (words : List ℕ) (start : ℕ) (xs : List ℕ) → AllBelow (2 ^ 64) words → Allowed (shuffleRefusals w64 words start (length xs)) → length xs ≤ 16384
-      → (op .shuffle words start xs .0 .rejected ≡ model .shuffle words start xs .0 .rejected)
-      × (op .shuffle words start xs .1 ≡ model .shuffle words start xs .1)
+      → (op .shuffle words start xs .0 .rejected ≡ contracts .shuffle words start xs .0 .rejected)
+      × (op .shuffle words start xs .1 ≡ contracts .shuffle words start xs .1)
   pinned words start xs w a h =
       let mine = demand .shuffle words start xs w a .1 in
-      let true-one = demand2 model model-meets .shuffle words start xs w a .1 in
+      let true-one = demand2 contracts refl .shuffle words start xs w a .1 in
       let (e, f, g) = same-outcome (shufflePlan size64 (length xs)) words (plan-fits (length xs) h .rollable) w start _ _ _ _ _ _ mine true-one in
       (f, mine .reading ∙ ap (λ (rs : List ℕ). shuffleWith (length xs) rs xs) g ∙ sym (true-one .reading))
 
@@ -68,22 +68,22 @@ module _ (op : Operations) (demand : Demand2 op) where
         let e : product (b ∷ []) ≡ b = unfold product in mul-one b in
         record { some = lit< tt; few = lit≤ tt; positive = rw e p; fits = rw e (omega arith) }
 
-    pinned-batch : Allowed (batchRefusals w64 words 0 (b ∷ [])) → op .roll-batch words 0 (b ∷ []) .rolls ≡ model .roll-batch words 0 (b ∷ []) .rolls
+    pinned-batch : Allowed (batchRefusals w64 words 0 (b ∷ [])) → op .roll-batch words 0 (b ∷ []) .rolls ≡ contracts .roll-batch words 0 (b ∷ []) .rolls
     pinned-batch a =
         let mine = demand .roll-batch words 0 (b ∷ []) w a .2 in
-        let true-one = demand2 model model-meets .roll-batch words 0 (b ∷ []) w a .2 in
+        let true-one = demand2 contracts refl .roll-batch words 0 (b ∷ []) w a .2 in
         let same = same-outcome ((b ∷ []) ∷ []) words (one-bound, tt) w 0 _ _ _ _ _ _ mine true-one .2 in
         mine .reading ∙ ap (λ (rs : List ℕ). rs ++ replicate 15 0) same ∙ sym (true-one .reading)
 
     pinned-list : Allowed (listRefusals w64 words 0 (b ∷ []) 1)
-        → op .roll-list words 0 (b ∷ []) (0 ∷ []) .1 ≡ model .roll-list words 0 (b ∷ []) (0 ∷ []) .1
+        → op .roll-list words 0 (b ∷ []) (0 ∷ []) .1 ≡ contracts .roll-list words 0 (b ∷ []) (0 ∷ []) .1
     unfolding cut cutFrom
     pinned-list a =
         let bs : List ℕ = b ∷ [] in
         let lent : List ℕ = 0 ∷ [] in
         let below = below-cons b [] l below-nil in
         let mine = demand .roll-list words 0 bs lent w below a .1 in
-        let true-one = demand2 model model-meets .roll-list words 0 bs lent w below a .1 in
+        let true-one = demand2 contracts refl .roll-list words 0 bs lent w below a .1 in
         let same = same-outcome (bs ∷ []) words (one-bound, tt) w 0 _ _ _ _ _ _ mine true-one .2 in
         mine .reading ∙ ap (λ (rs : List ℕ). rs ++ []) same ∙ sym (true-one .reading)
 
@@ -122,7 +122,7 @@ nothing-2 op m d =
     let z : _≡_ {A = ℕ} 0 1 = ap (λ (l : List ℕ). getD l 0 0) (sym (m (0 ∷ []) 0 xs) ∙ e) in
     omega arith
 
-nothing-3 : (op : Operations) → MeetsBack op → MovesNothing op → Demand3 op → ⊥
+nothing-3 : (op : Operations) → MetBack op → MovesNothing op → Demand3 op → ⊥
 unfolding firstOf product rest rolls find runFrom rollsOf next rejected decide size64 shuffle shufflePlanFrom countdown shuffleWith exchange countup inRange
 nothing-3 op b m d =
     let xs : List ℕ = 0 ∷ 1 ∷ [] in
@@ -160,24 +160,24 @@ count-2 op (count, f) d =
 -- the operations of the definitions, but for a shuffle that works the first batch only
 first-batch : Operations
 first-batch = record {
-  roll-batch = model .roll-batch;
-  roll-list = model .roll-list;
+  roll-batch = contracts .roll-batch;
+  roll-list = contracts .roll-list;
   shuffle = λ words start xs.
       let plan : List (List ℕ) = shufflePlan size64 (length xs) in
       let rs : List ℕ = rollsOf 64 plan (trace (run 64 plan words start)) in
-      (model .shuffle words start xs .0, shuffleWith (length xs) (take (size64 (length xs)) rs) xs);
-  sample = model .sample;
-  words-behind = model .words-behind;
-  rolls-behind = model .rolls-behind;
-  run-sheet = model .run-sheet;
+      (contracts .shuffle words start xs .0, shuffleWith (length xs) (take (size64 (length xs)) rs) xs);
+  sample = contracts .sample;
+  words-behind = contracts .words-behind;
+  rolls-behind = contracts .rolls-behind;
+  run-sheet = contracts .run-sheet;
 }
 
 first-some : (op : Operations) × MeetsBack op × FirstBatchOnly op
 unfolding first-batch
 first-some = (
   first-batch,
-  record { words-behind = λ bs rs. refl; rolls-behind = λ ys lent. refl },
-  record { refuses = λ words start xs. demand1 model model-meets .shuffle words start xs .lowest; moves = λ words start xs z. refl },
+  (refl, refl),
+  record { refuses = λ words start xs. demand1 contracts refl .shuffle words start xs .lowest; moves = λ words start xs z. refl },
 )
 
 -- a sheet of no word and one record, k = 1, w = 0
@@ -200,10 +200,10 @@ stand-ins = (
     fixed-batch = fixed-batch op;
     fixed-list = fixed-list op;
     nothing-2 = nothing-2 op;
-    nothing-3 = nothing-3 op;
+    nothing-3 = λ b. nothing-3 op (met-back op b);
     first-2 = first-2 op;
-    first-3 = λ b f. fails-from-eight op f b;
-    first-3-before = λ b f. holds-to-seven op f b;
+    first-3 = λ b f. fails-from-eight op f (met-back op b);
+    first-3-before = λ b f. holds-to-seven op f (met-back op b);
     count-2 = count-2 op;
   },
   first-some,

@@ -1,6 +1,6 @@
 -- The seven operations as their caller observes them, and what it is to meet their contracts.
 --
--- The promises are made of any operations that meet their contracts; the contract of the code is the equation below. An operation is a
+-- The promises are made of any operations that meet their contracts; the contract of the code is the equation with `contracts` below. An operation is a
 -- function of what the call is given. A list that it is lent to write in comes last, and comes back beside the answer. The lists hold any
 -- numbers. The code is only ever given words, bounds and rolls below 2^64 and records below 2^32: take it as completed by the definitions
 -- on lists that no call can hold.
@@ -14,8 +14,9 @@
 --     rolls-behind             the order, the lent list of rolls
 --     run-sheet                the sheet's bytes, the lent list of slots
 --   seen start lent outcome    what the caller sees of an outcome: the answer, and the lent list as it is left
---   MeetsBack op               of the two ways back: on every input the caller sees what the definitions say
---   Meets op                   of all seven
+--   contracts                  what the definitions say of each. An operation meets its contract where it is equal to the one here: on
+--                              every input the caller sees what the definitions say (proofs/Model, on-every-input)
+--   MeetsBack op               the two ways back meet their contracts
 use mathlib.Core.Path.{_≡_}
 use mathlib.Core.List.{List}
 use Prim.Native.Nat.{ℕ}
@@ -42,17 +43,16 @@ pub record Operations : Type 0 where
 abbrev pub seen : ℕ → List ℕ → Outcome → Answer × List ℕ
 seen start lent o = (shown start o, left lent o)
 
-pub record MeetsBack (op : Operations) : Type 0 where
-  pub words-behind : (bs rs : List ℕ) → op .words-behind bs rs ≡ shownBehind (wordsBehind w64 bs rs)
-  pub rolls-behind : (ys lent : List ℕ) → op .rolls-behind ys lent ≡ seen 0 lent (rollsBehind ys (length lent))
+abbrev pub contracts : Operations
+contracts = record {
+  roll-batch = λ words start bs. shownBatch start (rollBatch w64 words start bs);
+  roll-list = λ words start bs lent. seen start lent (rollList w64 words start bs (length lent));
+  shuffle = λ words start xs. seen start xs (shuffle w64 words start xs);
+  sample = λ words start xs k lent. seen start lent (sample w64 words start xs k (length lent));
+  words-behind = λ bs rs. shownBehind (wordsBehind w64 bs rs);
+  rolls-behind = λ ys lent. seen 0 lent (rollsBehind ys (length lent));
+  run-sheet = λ s lent. (shownDrawn s (runSheet w64 s (length lent)), left lent (runSheet w64 s (length lent)));
+}
 
-pub record Meets (op : Operations) : Type 0 where
-  pub roll-batch : (words : List ℕ) (start : ℕ) (bs : List ℕ) → op .roll-batch words start bs ≡ shownBatch start (rollBatch w64 words start bs)
-  pub roll-list : (words : List ℕ) (start : ℕ) (bs lent : List ℕ)
-      → op .roll-list words start bs lent ≡ seen start lent (rollList w64 words start bs (length lent))
-  pub shuffle : (words : List ℕ) (start : ℕ) (xs : List ℕ) → op .shuffle words start xs ≡ seen start xs (shuffle w64 words start xs)
-  pub sample : (words : List ℕ) (start : ℕ) (xs : List ℕ) (k : ℕ) (lent : List ℕ)
-      → op .sample words start xs k lent ≡ seen start lent (sample w64 words start xs k (length lent))
-  pub back : MeetsBack op
-  pub run-sheet : (s lent : List ℕ)
-      → op .run-sheet s lent ≡ (shownDrawn s (runSheet w64 s (length lent)), left lent (runSheet w64 s (length lent)))
+abbrev pub MeetsBack : Operations → Type 0
+MeetsBack op = (op .words-behind ≡ contracts .words-behind) × (op .rolls-behind ≡ contracts .rolls-behind)

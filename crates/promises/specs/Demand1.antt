@@ -32,7 +32,7 @@ use Rattle.rolls.specs.declared.answer.Answer.{Answer}
 use Rattle.rolls.specs.declared.answer.Batch.{Batch}
 use Rattle.rolls.specs.declared.answer.Behind.{Behind}
 use Rattle.sheet.specs.declared.run.Drawn.{Drawn}
-use Rattle.promises.specs.Contracts.{Operations, Meets}
+use Rattle.promises.specs.Contracts.{Operations, contracts}
 
 unfoldable pub firstOf : List Refusal → Refusal
 firstOf [] = no 0 false
@@ -60,10 +60,9 @@ pub record Demand1 (op : Operations) : Type 0 where
       AsRefused (sheetRefusals w64 s (length lent)) (λ o. (shownDrawn s o, lent)) (got .0 .no) got
   -- number 10 names a batch of the plan: those before it have their words, and with it the words do not suffice
   pub first-short : (plan : List (List ℕ)) (words : List ℕ) (start k : ℕ) → run 64 plan words start ≡ short k
-      → (k < length plan) × T (suffices (run 64 (take k plan) words start))
-      × T (not (suffices (run 64 (take (k + 1) plan) words start)))
+      → (k < length plan) × T (suffices (run 64 (take k plan) words start)) × T (not (suffices (run 64 (take (k + 1) plan) words start)))
   -- the test of number 1 is the sentence of document 01
   pub sound : (s : List ℕ) → T (isSound s) ↔ Sound s
 
 abbrev pub HoldsDemand1 : Type 0
-HoldsDemand1 = (op : Operations) → Meets op → Demand1 op
+HoldsDemand1 = (op : Operations) → op ≡ contracts → Demand1 op

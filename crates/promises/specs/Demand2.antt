@@ -40,7 +40,7 @@ use Rattle.sheet.specs.Sheet.{numbers, wordsOf, recordsOf}
 use Rattle.sheet.specs.Operations.{sheetRefusals, shownDrawn}
 use Rattle.rolls.specs.declared.answer.Batch.{Batch}
 use Rattle.rolls.specs.declared.answer.Behind.{Behind}
-use Rattle.promises.specs.Contracts.{Operations, Meets}
+use Rattle.promises.specs.Contracts.{Operations, contracts}
 use Rattle.promises.specs.Demand1.{firstOf}
 
 abbrev pub Allowed : List Refusal → Type 0
@@ -79,8 +79,7 @@ pub record Lemire (plan : List (List ℕ)) (words : List ℕ) (start next reject
 
 pub record FullRun (bs : List ℕ) (run : Behind) : Type 0 where
   pub named : (run .no ≡ 0) × (run .next ≡ 0) × (run .rejected ≡ 0)
-  pub some : run .first ≤ run .last
-  pub words : run .last < 2 ^ 64
+  pub words : (run .first ≤ run .last) × (run .last < 2 ^ 64)
   pub long : run .last - run .first + 1 ≡ 2 ^ 64 / product bs
 
 pub record Demand2 (op : Operations) : Type 0 where
@@ -125,4 +124,4 @@ pub record Demand2 (op : Operations) : Type 0 where
       → (m ≡ n) × (r ≡ s) × (xs ≡ ys)
 
 abbrev pub HoldsDemand2 : Type 0
-HoldsDemand2 = (op : Operations) → Meets op → Demand2 op
+HoldsDemand2 = (op : Operations) → op ≡ contracts → Demand2 op

@@ -17,7 +17,7 @@
 --   Demand3At op n             the demand, for n records: the order has its rolls; each batch has a full run (Demand2, FullRun); and which
 --                              lists produce the order
 --   Demand3 op                 the demand, for up to 16,384 records
---   HoldsDemand3               the statement: it holds of all operations that meet their contracts
+--   HoldsDemand3               the statement: it holds of a shuffle and two ways back that meet their contracts
 --   OwnPlaces                  and of the records 0 .. n - 1 each is its own place, so an order of them is asked for as it is
 use mathlib.Core.Path.{_≡_}
 use mathlib.Core.Logic.{_↔_}
@@ -31,7 +31,7 @@ use Rattle.draws.specs.Order.{placeOf, AllBelow, Distinct, Reorders}
 use Rattle.rolls.specs.declared.answer.Answer.{Answer}
 use Rattle.rolls.specs.declared.answer.Behind.{Behind}
 use Rattle.promises.specs.Demand2.{FullRun}
-use Rattle.promises.specs.Contracts.{Operations, Meets}
+use Rattle.promises.specs.Contracts.{Operations, contracts, MeetsBack}
 
 abbrev pub Paired : {A B : Type 0} → (A → B → Type 0) → List A → List B → Type 0
 Paired R [] [] = Unit
@@ -57,15 +57,14 @@ abbrev pub Demand3At : Operations → ℕ → Type 0
 Demand3At op n = (xs ys : List ℕ) → length xs ≡ n → Distinct xs → Reorders xs ys
     → let plan : List (List ℕ) = shufflePlan size64 n in
     let (answer, rs) = op .rolls-behind (places xs ys) (replicate (n - 1) 0) in
-    let runs : List Behind = runsNamed (op .words-behind) plan rs in
-    (answer .no ≡ 0) × Paired FullRun plan runs
+    let runs : List Behind = runsNamed (op .words-behind) plan rs in (answer .no ≡ 0) × Paired FullRun plan runs
     × ((words : List ℕ) → length words ≡ length plan → AllBelow (2 ^ 64) words → Produces (op .shuffle words 0 xs) ys ↔ Paired InRun runs words)
 
 abbrev pub Demand3 : Operations → Type 0
 Demand3 op = (n : ℕ) → n ≤ 16384 → Demand3At op n
 
 abbrev pub HoldsDemand3 : Type 0
-HoldsDemand3 = (op : Operations) → Meets op → Demand3 op
+HoldsDemand3 = (op : Operations) → op .shuffle ≡ contracts .shuffle → MeetsBack op → Demand3 op
 
 abbrev pub OwnPlaces : Type 0
 OwnPlaces = (n : ℕ) (ys : List ℕ) → Reorders (countup n 0) ys → places (countup n 0) ys ≡ ys
