@@ -1,12 +1,13 @@
-# make draw      builds the program and runs it on the example sheet
+# make draw      builds the program and runs it on the example sheet; what the prover says goes to target/draw.log
 # make test      the gate: everything proved, every test passed
 # make bench     times of the library beside Rust written for this, as ratios, on x86-64
 # make picture   draws docs/four_bits.svg anew
 .PHONY: draw test bench picture
 
 draw:
-	rt check draw_sheet
-	. .ci/target.sh && $$CARGO_TARGET_X86_64_UNKNOWN_LINUX_GNU_RUNNER target/bin/draw_sheet < crates/draw_sheet/stdin
+	@mkdir -p target
+	@rt check draw_sheet > target/draw.log 2>&1 || { tail -n 20 target/draw.log; exit 1; }
+	@sh .ci/x86_64.sh target/bin/draw_sheet < crates/draw_sheet/stdin
 
 test:
 	bash .ci/run

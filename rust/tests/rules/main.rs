@@ -3,7 +3,8 @@
 //! `sheets` and `support` have what they share. A test is named by the rule that it holds. Whole answers and whole lent
 //! lists are compared.
 //!
-//! `HILDRASP_CASES=20 cargo test --release` runs twenty times the random cases of a default run.
+//! `HILDRASP_CASES=20 cargo test --release` runs twenty times the random cases of a default run. Under an emulator a
+//! default run has one in ten of the random cases and of the longest exhaustive ones; `HILDRASP_CASES=1` asks for all.
 
 mod batch;
 mod behind;

@@ -1,7 +1,7 @@
 //! The draw sheet: when it is sound, the draw from it, and refusals 1, 3, 6, 10.
 
 use crate::sheets::{self, change_number, laid_out, written};
-use crate::support::{cases, choices, in_place, run_sheet, sample, sheet_refused, Generator, Lent};
+use crate::support::{cases, choices, in_place, run_sheet, sample, sheet_refused, thinned, Generator, Lent};
 use hildrasp::oracle::{plan, run::run};
 use hildrasp::Numbers;
 use std::collections::BTreeSet;
@@ -269,12 +269,11 @@ fn a_sheet_with_any_byte_damaged_is_answered_as_by_the_oracle() {
     for records_first in [false, true] {
         let sheet = laid_out(&words, &generator.records(30), 3, 2, [1, 2, 3], records_first);
         assert_eq!(number_for(&sheet), 0);
-        for place in 0..sheet.len() {
-            for byte in 0..=255 {
-                let mut other = sheet.clone();
-                other[place] = byte;
-                run_sheet(&other, 5);
-            }
+        let damages = (0..sheet.len()).flat_map(|place| (0..=255).map(move |byte| (place, byte)));
+        for (place, byte) in thinned(damages.collect()) {
+            let mut other = sheet.clone();
+            other[place] = byte;
+            run_sheet(&other, 5);
         }
     }
 }

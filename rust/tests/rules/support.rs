@@ -8,17 +8,40 @@ use std::fmt::{self, Debug};
 use std::path::Path;
 use std::process::Command;
 
-/// How many random cases to run, times the number in the environment variable `HILDRASP_CASES`.
-pub fn cases(default: usize) -> usize {
-    match env::var("HILDRASP_CASES") {
-        Ok(times) => default * times.parse::<usize>().expect("HILDRASP_CASES is a whole number"),
-        Err(_) => default,
+/// The environment variable that names the emulator, where one runs these tests.
+const EMULATOR: &str = "CARGO_TARGET_X86_64_UNKNOWN_LINUX_GNU_RUNNER";
+
+/// The environment variable that asks for all cases, the random ones this many times over.
+const CASES: &str = "HILDRASP_CASES";
+
+/// One in how many of a test's cases is run. An emulator is many times slower: there it is one in ten of a thousand or
+/// more, unless all are asked for.
+fn one_in(all: usize) -> usize {
+    let too_many = all >= 1000 && env::var_os(EMULATOR).is_some() && env::var_os(CASES).is_none();
+    if too_many {
+        10
+    } else {
+        1
     }
+}
+
+/// How many random cases to run.
+pub fn cases(all: usize) -> usize {
+    match env::var(CASES) {
+        Ok(times) => all * times.parse::<usize>().expect("HILDRASP_CASES is a whole number"),
+        Err(_) => all / one_in(all),
+    }
+}
+
+/// The cases of a long exhaustive test to run.
+pub fn thinned<T>(all: Vec<T>) -> impl Iterator<Item = T> {
+    let step = one_in(all.len());
+    all.into_iter().step_by(step)
 }
 
 /// A program built for x86-64: run as it is, or, where these tests themselves are run by an emulator, by the same one.
 pub fn built_program(path: &Path) -> Command {
-    match env::var_os("CARGO_TARGET_X86_64_UNKNOWN_LINUX_GNU_RUNNER") {
+    match env::var_os(EMULATOR) {
         Some(emulator) => {
             let mut command = Command::new(emulator);
             command.arg(path);
