@@ -13,25 +13,17 @@
 --   zero-here, zero-later, zero-none              whether some bound from a place on is 0
 --   product-some, product-pos                     the product of bounds that are all 1 or more is 1 or more
 use mathlib.Core.Path.{_≡_, refl, sym, ap, _∙_}
-use mathlib.Core.Bool.{Bool, true, false, _||_}
-use mathlib.Core.List.{List, [], _∷_, _++_}
-use Prim.Native.Nat.{ℕ, zero, suc, suc-le-suc, zero-le, _+_, _-_, _*_, _/_, _^_, _<_, _≤_}
-use native.Mathlib.Nat.{le-div-iff-mul-le, lt-of-not-le, mul-pos, le-mul-of-pos-right, not-suc-le-zero, le-of-suc-le-suc, pos-of-ne-zero}
-use native.Mathlib.Numerals.{add-one}
+use mathlib.Core.Bool.{Bool, true, false}
+use Prim.Native.Nat.{ℕ, zero, suc, _+_, _-_, _*_, _/_, _^_, _<_, _≤_}
+use native.Mathlib.Nat.{le-div-iff-mul-le, lt-of-not-le, le-mul-of-pos-right}
 use native.Mathlib.Omega.{arith}
 use lib.Dec.{leb, ltb, eqb}
 use lib.Arith.{lt-of-le-ne}
-use lib.ListN.{length, take, drop, getD, drop-of-length-le}
-use lib.Seq.{take-suc, drop-cons}
 use borrow.Author.Tests.{leb-true, leb-false, le-leb, lt-leb, lt-ltb, le-ltb, eq-eqb, ne-eqb, eqb-true, eqb-false, ltb-true, ltb-false}
-use Rattle.arithmetic.specs.Rolls.{product, hasZero}
 use Rattle.arithmetic.specs.Products.{against, grown}
 use Rattle.arithmetic.specs.declared.bounds.Product.{Product}
 use Rattle.arithmetic.specs.declared.bounds.Product.the-variants.{Below, Whole, Above}
-
--- a case that does not arise, where two variants would be one: `clash cc`
-pub clash : {A : Type 0} → _≡_ {A = ℕ} 0 1 → A
-clash z = absurd (let n : ⊥ = omega arith in n)
+use Rattle.rules.proofs.Facts.{clash}
 
 -- ---- a quotient tells whether a product passes a limit
 
@@ -129,50 +121,3 @@ grown-against n b h = go (ltb n (2 ^ 64)) refl (eqb n (2 ^ 64)) refl
     go false e false f =
         let l : 2 ^ 64 < n = lt-of-le-ne (ltb-false n (2 ^ 64) e) (λ w. eqb-false n (2 ^ 64) f (sym w)) in
         ap (λ (x : Product). grown x b) (against-above n l) ∙ sym (against-above (n * b) (omega (arith, le-mul-of-pos-right n h)))
-
-pub product-snoc : (bs : List ℕ) (b : ℕ) → product (bs ++ b ∷ []) ≡ product bs * b
-unfolding product
-product-snoc [] b = omega arith
-product-snoc (c ∷ bs) b = omega (arith, ap (λ (x : ℕ). c * x) (product-snoc bs b))
-
-pub product-more : (bs : List ℕ) (i : ℕ) → i < length bs → product (take (i + 1) bs) ≡ product (take i bs) * getD bs i 0
-product-more bs i h = rw (add-one i, take-suc bs i 0 h) (product-snoc (take i bs) (getD bs i 0))
-
--- ---- no bound is 0
-
-pub or-left : (a b : Bool) → (a || b) ≡ false → a ≡ false
-or-left true b e = e
-or-left false b e = refl
-
-pub or-right : (a b : Bool) → (a || b) ≡ false → b ≡ false
-or-right true b e = cc
-or-right false b e = e
-
-pub zero-nowhere : (bs : List ℕ) (i : ℕ) → hasZero bs ≡ false → i < length bs → 0 < getD bs i 0
-unfolding hasZero
-zero-nowhere [] i e h = absurd (not-suc-le-zero h)
-zero-nowhere (b ∷ bs) zero e h = pos-of-ne-zero (eqb-false b 0 (or-left (eqb b 0) (hasZero bs) e))
-zero-nowhere (b ∷ bs) (suc i) e h = zero-nowhere bs i (or-right (eqb b 0) (hasZero bs) e) (le-of-suc-le-suc h)
-
-module _ (bs : List ℕ) (i : ℕ) (h : i < length bs) where
-  pub zero-here : getD bs i 0 ≡ 0 → hasZero (drop i bs) ≡ true
-  unfolding hasZero
-  zero-here e = rw (drop-cons bs i 0 h, e)
-
-  pub zero-later : (getD bs i 0 ≡ 0 → ⊥) → hasZero (drop (i + 1) bs) ≡ hasZero (drop i bs)
-  unfolding hasZero
-  zero-later n = rw (add-one i, drop-cons bs i 0 h, ne-eqb (getD bs i 0) 0 n)
-
-pub zero-none : (bs : List ℕ) (i : ℕ) → length bs ≤ i → hasZero (drop i bs) ≡ false
-unfolding hasZero
-zero-none bs i h = rw (drop-of-length-le bs h)
-
--- ---- the product of bounds that are all at least 1
-
-pub product-some : (bs : List ℕ) → ((i : ℕ) → i < length bs → 0 < getD bs i 0) → 0 < product bs
-unfolding product
-product-some [] h = omega arith
-product-some (b ∷ bs) h = mul-pos (h 0 (suc-le-suc zero-le)) (product-some bs (λ i k. h (suc i) (suc-le-suc k)))
-
-pub product-pos : (bs : List ℕ) → hasZero bs ≡ false → 0 < product bs
-product-pos bs z = product-some bs (λ i h. zero-nowhere bs i z h)

@@ -3,7 +3,7 @@ ghost use mathlib.Core.Path.{_≡_};
 ghost use mathlib.Core.Bool.{false};
 ghost use Prim.Native.Nat.{_*_, _<_};
 ghost use lib.Dec.{leb};
-ghost use Rattle.arithmetic.specs.Rolls.{product, threshold, hasZero};
+ghost use Rattle.rules.specs.Rolls.{product, threshold, hasZero};
 ghost use Rattle.arithmetic.specs.Products.{against, grown};
 
 // A product held against 2^64, which no 64-bit number holds.

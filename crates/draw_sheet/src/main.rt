@@ -2,11 +2,11 @@
 // bytes of each line are the proved library's; reading, and writing the lines in their order, are left to here.
 use libc::STDIN_FILENO;
 use libc::STDOUT_FILENO;
+use lines::text::LINE;
+use lines::text::first_line;
+use lines::text::slot_line;
 use sheet::run::Drawn;
 use sheet::run::run_sheet;
-use sheet::text::LINE;
-use sheet::text::first_line;
-use sheet::text::slot_line;
 ghost use Prim.Native.Nat.{_+_, _<_, _^_};
 
 // Room for every slot: no sheet has as many records.

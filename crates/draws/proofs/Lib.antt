@@ -1,14 +1,2 @@
-pub mod Counting
-pub mod Each
-pub mod Inverse
-pub mod Marking
-pub mod OneOrder
 pub mod OneSample
-pub mod OneShuffle
-pub mod Orders
-pub mod Placing
-pub mod Plans
-pub mod Reach
-pub mod Runs
 pub mod Sampling
-pub mod Shuffling

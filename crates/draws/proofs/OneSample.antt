@@ -4,22 +4,21 @@
 --   sample-start, sample-short               numbers 9 and 10
 --   sample-done                              done, where none of them applies
 --   sample-length                            as many values as slots
-use mathlib.Core.Path.{_≡_, refl, ap, _∙_}
-use mathlib.Core.Bool.{Bool, true, false}
-use mathlib.Core.List.{List, [], _∷_}
+use mathlib.Core.Path.{_≡_, ap, _∙_}
+use mathlib.Core.Bool.{true, false}
+use mathlib.Core.List.{List}
 use Prim.Native.Nat.{ℕ, _+_, _-_, _^_, _<_, _≤_}
 use lib.Dec.{ltb}
-use lib.ListN.{length, take, drop, set, length-set}
-use lib.Seq.{length-take-le}
-use Rattle.arithmetic.specs.Width.{w64}
-use Rattle.rolls.specs.Run.{run, trace, rollsOf}
-use Rattle.rolls.specs.Cut.{cut}
-use Rattle.rolls.specs.Outcome.{refused, done, decide, outside, ofWords, fromRun}
-use Rattle.rolls.specs.Inner.{supplied}
-use Rattle.rolls.specs.declared.supply.Supply.the-variants.{Enough, Short}
-use Rattle.rolls.proofs.Deciding.{decide-here, decide-past, no-start, words-short, words-drawn}
-use Rattle.draws.specs.Sample.{countup, reservoir}
-use Rattle.draws.specs.Operations.{sample}
+use lib.ListN.{length, take, drop}
+use Rattle.rules.specs.Width.{w64}
+use Rattle.rules.specs.Run.{run, trace, rollsOf}
+use Rattle.rules.specs.Cut.{cut}
+use Rattle.answers.specs.Outcome.{refused, done, decide, outside, ofWords, fromRun}
+use Rattle.answers.specs.Supplied.{supplied}
+use Rattle.answers.specs.declared.supply.Supply.the-variants.{Enough, Short}
+use Rattle.answers.proofs.Deciding.{decide-here, decide-past, no-start, words-short, words-drawn}
+use Rattle.rules.specs.Reservoir.{countup, reservoir}
+use Rattle.draws.specs.Sample.{sample}
 
 module _ (words : List ℕ) (start : ℕ) (xs : List ℕ) (k room : ℕ) where
   pub sample-count : outside 0 16384 (length xs) ≡ true → sample w64 words start xs k room ≡ refused 2 0
@@ -60,18 +59,3 @@ module _ (words : List ℕ) (start : ℕ) (xs : List ℕ) (k room : ℕ) where
               → sample w64 words start xs k room
               ≡ done (reservoir (take k xs) (drop k xs) (rollsOf 64 (cut (2 ^ 56) bs) (trace (run 64 (cut (2 ^ 56) bs) words start)))) to more
           sample-done to more e = rest ∙ rw (← same) (words-drawn 64 (cut (2 ^ 56) bs) words start (reservoir (take k xs) (drop k xs)) h to more e)
-
--- ---- as many values as slots
-
-reservoir-length : (slots xs js : List ℕ) → length (reservoir slots xs js) ≡ length slots
-unfolding reservoir
-reservoir-length slots [] js = refl
-reservoir-length slots (x ∷ xs) [] = refl
-reservoir-length slots (x ∷ xs) (j ∷ js) = reservoir-length _ xs js ∙ go (ltb j (length slots))
-  where
-    go : (t : Bool) → length {A = ℕ} (elim t [ true ↦ set slots j x | false ↦ slots ]) ≡ length slots
-    go true = length-set slots j x
-    go false = refl
-
-pub sample-length : (xs js : List ℕ) (k : ℕ) → k ≤ length xs → length (reservoir (take k xs) (drop k xs) js) ≡ k
-sample-length xs js k h = reservoir-length (take k xs) (drop k xs) js ∙ length-take-le k xs h

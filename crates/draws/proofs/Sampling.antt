@@ -8,33 +8,17 @@
 --   bound-count, bounds-no-zero                      a sample of k from n records has n - k bounds, and none is 0
 use mathlib.Core.Path.{_≡_, refl, sym, ap, ap₂, _∙_}
 use mathlib.Core.Bool.{false, _||_}
-use mathlib.Core.List.{List, [], _∷_, _++_, append-nil}
+use mathlib.Core.List.{List, _∷_, _++_, append-nil}
 use Prim.Native.Nat.{ℕ, zero, suc, _+_, _-_, _<_, _≤_}
 use native.Mathlib.Omega.{arith}
 use lib.ListN.{length, take, drop, set, getD, length-set, take-append-drop, drop-of-length-le}
 use lib.Seq.{take-at, drop-at, take-set-lt, drop-set-lt, length-take-le, length-front}
-use borrow.Author.Tests.{lt-ltb, le-ltb, ne-eqb}
-use Rattle.arithmetic.specs.Rolls.{hasZero}
-use Rattle.rolls.proofs.Writing.{drop-next}
-use Rattle.draws.specs.Sample.{countup, reservoir}
-use Rattle.draws.proofs.Plans.{countup-length}
-
--- ---- the later records
-
-reservoir-taken : (slots : List ℕ) (x : ℕ) (xs : List ℕ) (j : ℕ) (js : List ℕ) → j < length slots
-    → reservoir slots (x ∷ xs) (j ∷ js) ≡ reservoir (set slots j x) xs js
-unfolding reservoir
-reservoir-taken slots x xs j js h = rw (lt-ltb j (length slots) h, reservoir)
-
-reservoir-passed : (slots : List ℕ) (x : ℕ) (xs : List ℕ) (j : ℕ) (js : List ℕ) → length slots ≤ j
-    → reservoir slots (x ∷ xs) (j ∷ js) ≡ reservoir slots xs js
-unfolding reservoir
-reservoir-passed slots x xs j js h = rw (le-ltb j (length slots) h, reservoir)
-
-reservoir-none : (slots xs : List ℕ) → reservoir slots xs [] ≡ slots
-unfolding reservoir
-reservoir-none slots [] = refl
-reservoir-none slots (x ∷ xs) = refl
+use borrow.Author.Tests.{ne-eqb}
+use Rattle.rules.specs.Rolls.{hasZero}
+use Rattle.rules.proofs.Writing.{drop-next}
+use Rattle.rules.specs.Reservoir.{countup, reservoir}
+use Rattle.rules.proofs.Rows.{countup-length}
+use Rattle.rules.proofs.Reservoir.{reservoir-taken, reservoir-none, reservoir-passed}
 
 -- the records before place k + i have had their turn
 abbrev pub Later : List ℕ → ℕ → List ℕ → List ℕ → List ℕ → ℕ → Type 0

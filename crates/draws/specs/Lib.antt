@@ -1,5 +1,1 @@
-pub mod Shuffle
 pub mod Sample
-pub mod Order
-pub mod Operations
-pub mod Plan

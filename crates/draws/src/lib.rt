@@ -1,8 +1,4 @@
-// Draws of records: the shuffle, the sample, and the way back from an order to its rolls. Each public operation answers every input.
+// The sample: a reservoir with batched rolls. The public operation answers every input.
 //
-// Contracts cite specs/: Shuffle, Sample, Order, and Operations (refusals, plan and reading of each operation). Plan says what is true
-// of a plan.
-pub mod order;
+// Contracts cite specs/: Sample (refusals, plan and reading of a sample).
 pub mod sample;
-pub mod shuffle;
-pub mod supply;

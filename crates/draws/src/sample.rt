@@ -1,22 +1,22 @@
 // The sample: a reservoir with batched rolls. First it is known that the words suffice for every batch, then slots are written.
-use super::shuffle::MAX_RECORDS;
-use rolls::answer::Answer;
-use rolls::answer::refused_answer;
-use rolls::list::write_list;
-use rolls::refusal;
-use rolls::supply::Supply;
-use rolls::supply::supply_list;
+use answers::answer::Answer;
+use answers::answer::refused_answer;
+use answers::limits::MAX_RECORDS;
+use answers::refusal;
+use answers::supply::Supply;
+use lists::list::write_list;
+use lists::supply::supply_list;
 ghost use mathlib.Core.Path.{_≡_};
 ghost use mathlib.Core.Bool.{true};
 ghost use mathlib.Core.List.{_++_};
 ghost use Prim.Native.Nat.{_+_, _-_, _≤_, _<_, _^_};
 ghost use lib.ListN.{length, take, drop};
-ghost use Rattle.arithmetic.specs.Width.{w64};
-ghost use Rattle.rolls.specs.Run.{run, trace, rollsOf, suffices};
-ghost use Rattle.rolls.specs.Cut.{cut};
-ghost use Rattle.rolls.specs.Outcome.{shown, left};
-ghost use Rattle.draws.specs.Sample.{countup, reservoir};
-ghost use Rattle.draws.specs.Operations.{sample};
+ghost use Rattle.rules.specs.Width.{w64};
+ghost use Rattle.rules.specs.Run.{run, trace, rollsOf, suffices};
+ghost use Rattle.rules.specs.Cut.{cut};
+ghost use Rattle.answers.specs.Outcome.{shown, left};
+ghost use Rattle.rules.specs.Reservoir.{countup, reservoir};
+ghost use Rattle.draws.specs.Sample.{sample};
 
 // Fills the list with from, from + 1, and so on.
 fn count_up(bounds: &mut [u64], from: u64)

@@ -1,15 +1,19 @@
 // The C face: each public operation under its C name, with the operation's own contract. A list crosses as a pointer and a count,
 // an answer by value. include/hildrasp.h declares these functions, and rust/ wraps them.
-use rolls::answer::Answer;
-use rolls::answer::Batch;
-use rolls::answer::Behind;
+use answers::answer::Answer;
+use answers::answer::Batch;
+use answers::answer::Behind;
 use sheet::run::Drawn;
 ghost use mathlib.Core.Path.{_≡_};
 ghost use lib.ListN.{length};
-ghost use Rattle.arithmetic.specs.Width.{w64};
-ghost use Rattle.rolls.specs.Outcome.{shown, shownBatch, shownBehind, left};
-ghost use Rattle.rolls.specs.Operations.{rollBatch, rollList, wordsBehind};
-ghost use Rattle.draws.specs.Operations.{shuffle, sample, rollsBehind};
+ghost use Rattle.rules.specs.Width.{w64};
+ghost use Rattle.answers.specs.Outcome.{shown, shownBatch, shownBehind, left};
+ghost use Rattle.rolls.specs.Batch.{rollBatch};
+ghost use Rattle.lists.specs.List.{rollList};
+ghost use Rattle.runs.specs.Behind.{wordsBehind};
+ghost use Rattle.shuffles.specs.Shuffle.{shuffle};
+ghost use Rattle.draws.specs.Sample.{sample};
+ghost use Rattle.orders.specs.Order.{rollsBehind};
 ghost use Rattle.sheet.specs.Operations.{runSheet, shownDrawn};
 
 #[no_mangle]
@@ -29,7 +33,7 @@ pub extern "C" fn hildrasp_roll_list(
     ensures answer { λ r. ⌜ r ≡ shown start (rollList w64 (now (words .entry)) start (now (bounds .entry)) (length (now (rolls .entry)))) ⌝ }
     ensures rolls { λ r. ⌜ now (rolls .exit) ≡ left (now (rolls .entry)) (rollList w64 (now (words .entry)) start (now (bounds .entry)) (length (now (rolls .entry)))) ⌝ }
 {
-    rolls::list::roll_list(words, start, bounds, rolls)
+    lists::list::roll_list(words, start, bounds, rolls)
 }
 
 #[no_mangle]
@@ -37,7 +41,7 @@ pub extern "C" fn hildrasp_shuffle(words: &[u64], start: usize, records: &mut [u
     ensures answer { λ r. ⌜ r ≡ shown start (shuffle w64 (now (words .entry)) start (now (records .entry))) ⌝ }
     ensures records { λ r. ⌜ now (records .exit) ≡ left (now (records .entry)) (shuffle w64 (now (words .entry)) start (now (records .entry))) ⌝ }
 {
-    draws::shuffle::shuffle_records(words, start, records)
+    shuffles::shuffle::shuffle_records(words, start, records)
 }
 
 #[no_mangle]
@@ -58,7 +62,7 @@ pub extern "C" fn hildrasp_sample(
 pub extern "C" fn hildrasp_words_behind(bounds: &[u64], rolls: &[u64]) -> Behind
     ensures { λ r. ⌜ r ≡ shownBehind (wordsBehind w64 (now (bounds .entry)) (now (rolls .entry))) ⌝ }
 {
-    rolls::behind::words_behind(bounds, rolls)
+    runs::behind::words_behind(bounds, rolls)
 }
 
 #[no_mangle]
@@ -66,7 +70,7 @@ pub extern "C" fn hildrasp_rolls_behind(order: &[u32], rolls: &mut [u64]) -> Ans
     ensures answer { λ r. ⌜ r ≡ shown 0 (rollsBehind (now (order .entry)) (length (now (rolls .entry)))) ⌝ }
     ensures rolls { λ r. ⌜ now (rolls .exit) ≡ left (now (rolls .entry)) (rollsBehind (now (order .entry)) (length (now (rolls .entry)))) ⌝ }
 {
-    draws::order::rolls_behind(order, rolls)
+    orders::order::rolls_behind(order, rolls)
 }
 
 #[no_mangle]

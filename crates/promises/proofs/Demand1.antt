@@ -10,19 +10,23 @@ use native.Mathlib.Numerals.{add-one}
 use native.Mathlib.Omega.{arith}
 use lib.Dec.{T}
 use lib.ListN.{length, take, drop}
-use Rattle.arithmetic.proofs.Limits.{clash}
-use Rattle.arithmetic.specs.Rolls.{accepted}
-use Rattle.arithmetic.specs.Width.{w64}
-use Rattle.rolls.specs.Run.{Found, found, missing, find, Run, run, runFrom, ran, short, suffices, after}
-use Rattle.rolls.specs.Outcome.{done, Refusal, decide, shown, shownBatch, shownBehind, left}
-use Rattle.rolls.specs.Operations.{batchRefusals, rollBatch, listRefusals, rollList, behindRefusals, wordsBehind}
-use Rattle.rolls.proofs.Running.{run-hit, run-missing}
-use Rattle.draws.specs.Operations.{shuffleRefusals, shuffle, sampleRefusals, sample, orderRefusals, rollsBehind}
+use Rattle.rules.proofs.Facts.{clash}
+use Rattle.rules.specs.Rolls.{accepted}
+use Rattle.rules.specs.Width.{w64}
+use Rattle.rules.specs.Run.{Found, found, missing, find, Run, run, runFrom, ran, short, suffices, after}
+use Rattle.answers.specs.Outcome.{done, Refusal, decide, shown, shownBatch, shownBehind, left}
+use Rattle.rolls.specs.Batch.{batchRefusals, rollBatch}
+use Rattle.lists.specs.List.{listRefusals, rollList}
+use Rattle.runs.specs.Behind.{behindRefusals, wordsBehind}
+use Rattle.rules.proofs.Running.{run-hit, run-missing}
+use Rattle.shuffles.specs.Shuffle.{shuffleRefusals, shuffle}
+use Rattle.draws.specs.Sample.{sampleRefusals, sample}
+use Rattle.orders.specs.Order.{orderRefusals, rollsBehind}
 use Rattle.sheet.specs.Operations.{sheetRefusals, runSheet, shownDrawn}
 use Rattle.sheet.proofs.Soundness.{sound-iff}
-use Rattle.rolls.specs.declared.answer.Answer.{Answer}
-use Rattle.rolls.specs.declared.answer.Batch.{Batch}
-use Rattle.rolls.specs.declared.answer.Behind.{Behind}
+use Rattle.answers.specs.declared.answer.Answer.{Answer}
+use Rattle.answers.specs.declared.answer.Batch.{Batch}
+use Rattle.answers.specs.declared.answer.Behind.{Behind}
 use Rattle.sheet.specs.declared.run.Drawn.{Drawn}
 use Rattle.promises.specs.Contracts.{seen}
 use Rattle.promises.specs.Demand1.{AsRefused, HoldsDemand1}

@@ -13,32 +13,39 @@ use native.Mathlib.Omega.{arith}
 use lib.Dec.{T, ltb, lit≤}
 use lib.ListN.{length, take, drop, replicate}
 use borrow.Author.Tests.{ltb-false, not-false}
-use Rattle.arithmetic.specs.Rolls.{product, accepted, inRange, hasZero}
-use Rattle.arithmetic.specs.Width.{w64, size64}
-use Rattle.arithmetic.proofs.Limits.{clash, or-right, zero-nowhere, product-pos}
-use Rattle.arithmetic.proofs.Words.{words-behind}
-use Rattle.rolls.specs.Run.{Run, ran, short, run, trace, rollsOf, next, rejected, suffices}
-use Rattle.rolls.specs.Cut.{cut}
-use Rattle.rolls.specs.Outcome.{Outcome, done, noWord, outside, ofWords, shownBatch}
-use Rattle.rolls.specs.Operations.{batchRefusals, rollBatch, listRefusals, rollList, behindRefusals}
+use Rattle.rules.specs.Rolls.{product, accepted, inRange, hasZero}
+use Rattle.rules.specs.Width.{w64, size64}
+use Rattle.rules.proofs.Facts.{clash, or-right}
+use Rattle.rules.proofs.Products.{zero-nowhere, product-pos}
+use Rattle.rules.proofs.Words.{words-behind}
+use Rattle.rules.specs.Run.{Run, ran, short, run, trace, rollsOf, next, rejected, suffices}
+use Rattle.rules.specs.Cut.{cut}
+use Rattle.answers.specs.Outcome.{Outcome, done, noWord, outside, ofWords, shownBatch}
+use Rattle.rolls.specs.Batch.{batchRefusals, rollBatch}
+use Rattle.lists.specs.List.{listRefusals, rollList}
+use Rattle.runs.specs.Behind.{behindRefusals}
 use Rattle.rolls.proofs.OneBatch.{some-bounds, few-bounds}
-use Rattle.rolls.proofs.Radix.{range-length, range-true}
-use Rattle.draws.specs.Shuffle.{shuffleWith, shuffleBounds, shufflePlan}
-use Rattle.draws.specs.Sample.{countup, reservoir}
-use Rattle.draws.specs.Order.{isOrder, rollsInto, AllBelow, Only}
-use Rattle.draws.specs.Plan.{joined, Rollable, RollablePlan, PlanOf}
-use Rattle.draws.specs.Operations.{shuffleRefusals, shuffle, samplePlan, sampleRefusals, sampled, sample, orderRefusals}
-use Rattle.draws.proofs.Plans.{shuffle-plan64, cut-plan, sample-plan, shuffle-bounds-length}
-use Rattle.draws.proofs.Orders.{length-shuffle}
-use Rattle.draws.proofs.Each.{rolls-behind}
-use Rattle.draws.proofs.OneSample.{sample-length}
-use Rattle.draws.proofs.OneShuffle.{whole-list}
-use Rattle.draws.proofs.Reach.{rolled-in-range}
+use Rattle.rules.proofs.Range.{range-length, range-true}
+use Rattle.rules.specs.Shuffle.{shuffleWith, shuffleBounds, shufflePlan}
+use Rattle.rules.specs.Reservoir.{countup, reservoir}
+use Rattle.rules.specs.Order.{isOrder, rollsInto, AllBelow, Only}
+use Rattle.rules.specs.Plan.{joined, Rollable, RollablePlan, PlanOf}
+use Rattle.shuffles.specs.Shuffle.{shuffleRefusals, shuffle}
+use Rattle.draws.specs.Sample.{samplePlan, sampleRefusals, sampled, sample}
+use Rattle.orders.specs.Order.{orderRefusals}
+use Rattle.rules.proofs.ShufflePlans.{shuffle-plan64}
+use Rattle.rules.proofs.CutPlans.{cut-plan, sample-plan}
+use Rattle.rules.proofs.Rows.{shuffle-bounds-length}
+use Rattle.rules.proofs.Orders.{length-shuffle}
+use Rattle.rules.proofs.Each.{rolls-behind}
+use Rattle.rules.proofs.Reservoir.{sample-length}
+use Rattle.rules.proofs.Writing.{whole-list}
+use Rattle.rules.proofs.Reach.{rolled-in-range}
 use Rattle.sheet.specs.Sheet.{numbers, wordsOf, recordsOf, isSound}
 use Rattle.sheet.specs.Operations.{sheetRefusals, runSheet, shownDrawn}
 use Rattle.sheet.proofs.OneSheet.{sheet-sample}
-use Rattle.rolls.specs.declared.answer.Batch.{Batch}
-use Rattle.rolls.specs.declared.answer.Behind.{Behind}
+use Rattle.answers.specs.declared.answer.Batch.{Batch}
+use Rattle.answers.specs.declared.answer.Behind.{Behind}
 use Rattle.promises.specs.Contracts.{Operations, seen}
 use Rattle.promises.specs.Demand2.{Allowed, Gives, Lemire, FullRun, HoldsDemand2}
 use Rattle.promises.proofs.Model.{Met, met}

@@ -16,21 +16,21 @@ use lib.Dec.{T}
 use lib.ListN.{length, getD, replicate}
 use lib.Seq.{ext-getD}
 use borrow.Author.Tests.{le-ltb}
-use Rattle.arithmetic.specs.Rolls.{inRange}
-use Rattle.arithmetic.specs.Width.{w64, size64}
-use Rattle.rolls.specs.Run.{Run, ran, short, suffices}
-use Rattle.rolls.specs.Outcome.{done, decide, noWord}
-use Rattle.draws.specs.Shuffle.{shuffleWith, shufflePlan}
-use Rattle.draws.specs.Order.{AllBelow, Distinct, Reorders, placeOf, rollsInto}
-use Rattle.draws.specs.Sample.{countup}
-use Rattle.draws.specs.Plan.{joined}
-use Rattle.draws.specs.Operations.{shuffle}
-use Rattle.draws.proofs.Plans.{countup-length, countup-at}
-use Rattle.draws.proofs.Orders.{Reordered, reordered, place-of, length-shuffle, one-series}
-use Rattle.draws.proofs.Each.{countup-distinct}
-use Rattle.draws.proofs.OneShuffle.{whole-list}
-use Rattle.draws.proofs.Reach.{shuffleRun, shuffleRolls, shuffle-gives, shuffle-in-runs64}
-use Rattle.rolls.specs.declared.answer.Behind.{Behind}
+use Rattle.rules.specs.Rolls.{inRange}
+use Rattle.rules.specs.Width.{w64, size64}
+use Rattle.rules.specs.Run.{Run, ran, short, suffices}
+use Rattle.answers.specs.Outcome.{done, decide, noWord}
+use Rattle.rules.specs.Shuffle.{shuffleWith, shufflePlan}
+use Rattle.rules.specs.Order.{AllBelow, Distinct, Reorders, placeOf, rollsInto}
+use Rattle.rules.specs.Reservoir.{countup}
+use Rattle.rules.specs.Plan.{joined}
+use Rattle.shuffles.specs.Shuffle.{shuffle}
+use Rattle.rules.proofs.Rows.{countup-length, countup-at}
+use Rattle.rules.proofs.Orders.{Reordered, reordered, place-of, length-shuffle, one-series}
+use Rattle.rules.proofs.Each.{countup-distinct}
+use Rattle.rules.proofs.Writing.{whole-list}
+use Rattle.shuffles.proofs.Reach.{shuffleRun, shuffleRolls, shuffle-gives, shuffle-in-runs64}
+use Rattle.answers.specs.declared.answer.Behind.{Behind}
 use Rattle.promises.specs.Contracts.{Operations, seen, contracts}
 use Rattle.promises.specs.Demand3.{Paired, places, runsNamed, InRun, Produces, Demand3At, Demand3, HoldsDemand3, OwnPlaces}
 use Rattle.promises.specs.Demand2.{FullRun}

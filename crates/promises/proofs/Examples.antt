@@ -1,13 +1,15 @@
 -- The checked examples hold: the definitions compute them. Assumes nothing.
-use Rattle.arithmetic.specs.Rolls.{rolls, rest, product, value, inRange, hasZero}
-use Rattle.arithmetic.specs.Width.{size64}
-use Rattle.rolls.specs.Outcome.{decide}
-use Rattle.rolls.specs.Operations.{rollBatch, wordsBehind}
-use Rattle.rolls.specs.Run.{find, runFrom, rollsOf, next, rejected}
-use Rattle.draws.specs.Operations.{shuffle, rollsBehind}
-use Rattle.draws.specs.Order.{count, eachOnce, placeOf, rollsInto}
-use Rattle.draws.specs.Sample.{countup}
-use Rattle.draws.specs.Shuffle.{exchange, shuffleWith, countdown, shufflePlanFrom}
+use Rattle.rules.specs.Rolls.{rolls, rest, product, value, inRange, hasZero}
+use Rattle.rules.specs.Width.{size64}
+use Rattle.answers.specs.Outcome.{decide}
+use Rattle.rolls.specs.Batch.{rollBatch}
+use Rattle.runs.specs.Behind.{wordsBehind}
+use Rattle.rules.specs.Run.{find, runFrom, rollsOf, next, rejected}
+use Rattle.shuffles.specs.Shuffle.{shuffle}
+use Rattle.orders.specs.Order.{rollsBehind}
+use Rattle.rules.specs.Order.{count, eachOnce, placeOf, rollsInto}
+use Rattle.rules.specs.Reservoir.{countup}
+use Rattle.rules.specs.Shuffle.{exchange, shuffleWith, countdown, shufflePlanFrom}
 use Rattle.promises.specs.Examples.{table, Examples}
 
 pub examples : Examples

@@ -15,20 +15,21 @@ use lib.Dec.{T, leb}
 use lib.ListN.{length, take, drop, getD, set, replicate}
 use lib.Seq.{set-getD, take-all}
 use borrow.Author.Tests.{le-leb, lt-leb}
-use Rattle.arithmetic.specs.Rolls.{inRange, firstWord}
-use Rattle.arithmetic.specs.Width.{w64, size64}
-use Rattle.arithmetic.proofs.Words.{first-last, last-fits}
-use Rattle.rolls.proofs.Radix.{range-length}
-use Rattle.draws.specs.Shuffle.{exchange, shuffleWith, countdown, shuffleBounds, shufflePlan}
-use Rattle.draws.specs.Sample.{countup}
-use Rattle.draws.specs.Order.{AllBelow, Distinct}
-use Rattle.draws.specs.Plan.{joined, RollablePlan}
-use Rattle.draws.specs.Operations.{shuffleRefusals}
-use Rattle.draws.proofs.Plans.{countup-length, no-bounds, countdown-at, shuffle-bounds-length}
-use Rattle.draws.proofs.Runs.{InRuns}
-use Rattle.draws.proofs.Each.{countup-distinct}
-use Rattle.draws.proofs.Orders.{range-cons, shuffle-reorders, one-series}
-use Rattle.draws.proofs.Reach.{range-split, rolled-in-range, words-in-runs, shuffleRolls}
+use Rattle.rules.specs.Rolls.{inRange, firstWord}
+use Rattle.rules.specs.Width.{w64, size64}
+use Rattle.rules.proofs.Words.{first-last, last-fits}
+use Rattle.rules.proofs.Range.{range-length, range-split}
+use Rattle.rules.specs.Shuffle.{exchange, shuffleWith, countdown, shuffleBounds, shufflePlan}
+use Rattle.rules.specs.Reservoir.{countup}
+use Rattle.rules.specs.Order.{AllBelow, Distinct}
+use Rattle.rules.specs.Plan.{joined, RollablePlan}
+use Rattle.shuffles.specs.Shuffle.{shuffleRefusals}
+use Rattle.rules.proofs.Rows.{countup-length, no-bounds, countdown-at, shuffle-bounds-length}
+use Rattle.rules.proofs.Runs.{InRuns}
+use Rattle.rules.proofs.Each.{countup-distinct}
+use Rattle.rules.proofs.Orders.{range-cons, shuffle-reorders, one-series}
+use Rattle.rules.proofs.Reach.{rolled-in-range, words-in-runs}
+use Rattle.shuffles.proofs.Reach.{shuffleRolls}
 use Rattle.promises.specs.Contracts.{Operations, contracts}
 use Rattle.promises.specs.Demand1.{firstOf}
 use Rattle.promises.specs.Demand3.{Demand3At}

@@ -14,14 +14,14 @@ use lib.Arith.{digits-div, digits-mod}
 use lib.ListN.{length, take, drop, getD, length-drop, take-append-drop}
 use lib.Seq.{getD-drop, take-at, drop-at}
 use borrow.Author.Tests.{leb-true, leb-false, le-leb, lt-leb}
-use Rattle.arithmetic.proofs.Limits.{clash}
-use Rattle.arithmetic.specs.Rolls.{rolls, rest, product, value, threshold, accepted}
-use Rattle.arithmetic.proofs.Rolls.{key-law, rest-below, rolls-length, rolls-in-range, value-one}
-use Rattle.rolls.specs.Run.{Taken, Found, found, missing, find, Run, ran, short, after, runFrom, rollsOf, next, rejected}
-use Rattle.rolls.proofs.Finding.{find-hit, find-miss}
-use Rattle.rolls.proofs.Running.{run-hit, run-missing}
-use Rattle.draws.specs.Order.{AllBelow}
-use Rattle.draws.specs.Plan.{RollablePlan}
+use Rattle.rules.proofs.Facts.{clash}
+use Rattle.rules.specs.Rolls.{rolls, rest, product, value, threshold, accepted}
+use Rattle.rules.proofs.Rolls.{key-law, rest-below, rolls-length, rolls-in-range, value-one}
+use Rattle.rules.specs.Run.{Taken, Found, found, missing, find, Run, ran, short, after, runFrom, rollsOf, next, rejected}
+use Rattle.rules.proofs.Finding.{find-hit, find-miss}
+use Rattle.rules.proofs.Running.{run-hit, run-missing}
+use Rattle.rules.specs.Order.{AllBelow}
+use Rattle.rules.specs.Plan.{RollablePlan}
 use Rattle.promises.specs.Demand2.{Unfolded, Gives, Rejects, First, Follows}
 
 -- ---- one word

@@ -19,25 +19,26 @@ use lib.Dec.{T, eqb, lit≤}
 use lib.ListN.{length, take, drop, getD, replicate, length-replicate, drop-of-length-le}
 use lib.Seq.{ext-getD}
 use borrow.Author.Tests.{le-ltb, ne-eqb}
-use Rattle.arithmetic.specs.Rolls.{product, inRange, firstWord, lastWord, hasZero}
-use Rattle.arithmetic.specs.Width.{size64}
-use Rattle.arithmetic.proofs.Rolls.{product-pos-head, product-pos-tail}
-use Rattle.arithmetic.proofs.Words.{first-last, last-fits, run-length}
-use Rattle.rolls.specs.Outcome.{done}
-use Rattle.rolls.proofs.Deciding.{decide-past, decide-none, in-count}
-use Rattle.rolls.proofs.Radix.{range-length}
-use Rattle.rolls.proofs.WayBack.{behind-found}
-use Rattle.draws.specs.Shuffle.{exchange, shuffleWith, shuffleBounds, shufflePlan}
-use Rattle.draws.specs.Sample.{countup}
-use Rattle.draws.specs.Order.{isOrder, placeOf, rollsInto, Distinct, Reorders, Only}
-use Rattle.draws.specs.Plan.{joined, Rollable, RollablePlan, PlanOf}
-use Rattle.draws.specs.Operations.{rollsBehind}
-use Rattle.draws.proofs.Plans.{countup-length, countup-at, shuffle-bounds-length, sizes-more, sizes64, shuffle-plan}
-use Rattle.draws.proofs.Orders.{Reordered, reordered, length-exchange, exchange-first, exchange-last, exchange-other, place-of, range-cons, length-shuffle, one-series}
-use Rattle.draws.proofs.Runs.{InRuns}
-use Rattle.draws.proofs.Reach.{range-split}
-use Rattle.draws.proofs.Each.{order-iff, rolls-behind}
-use Rattle.rolls.specs.declared.answer.Behind.{Behind}
+use Rattle.rules.specs.Rolls.{product, inRange, firstWord, lastWord, hasZero}
+use Rattle.rules.specs.Width.{size64}
+use Rattle.rules.proofs.Products.{product-pos-head, product-pos-tail}
+use Rattle.rules.proofs.Words.{first-last, last-fits, run-length}
+use Rattle.answers.specs.Outcome.{done}
+use Rattle.answers.proofs.Deciding.{decide-past, decide-none, in-count}
+use Rattle.rules.proofs.Range.{range-length, range-split}
+use Rattle.runs.proofs.WayBack.{behind-found}
+use Rattle.rules.specs.Shuffle.{exchange, shuffleWith, shuffleBounds, shufflePlan}
+use Rattle.rules.specs.Reservoir.{countup}
+use Rattle.rules.specs.Order.{isOrder, placeOf, rollsInto, Distinct, Reorders, Only}
+use Rattle.rules.specs.Plan.{joined, Rollable, RollablePlan, PlanOf}
+use Rattle.orders.specs.Order.{rollsBehind}
+use Rattle.rules.proofs.Rows.{countup-length, countup-at, shuffle-bounds-length}
+use Rattle.rules.proofs.ShufflePlans.{sizes-more, sizes64, shuffle-plan}
+use Rattle.rules.proofs.Orders.{Reordered, reordered, place-of, range-cons, length-shuffle, one-series}
+use Rattle.rules.proofs.Exchanging.{length-exchange, exchange-first, exchange-last, exchange-other}
+use Rattle.rules.proofs.Runs.{InRuns}
+use Rattle.rules.proofs.Each.{order-iff, rolls-behind}
+use Rattle.answers.specs.declared.answer.Behind.{Behind}
 use Rattle.promises.specs.Contracts.{Operations, seen}
 use Rattle.promises.specs.Demand3.{Paired, places, runsNamed, InRun}
 use Rattle.promises.specs.Demand2.{FullRun}

@@ -7,11 +7,10 @@ use mathlib.Core.Path.{_≡_, refl, sym, ap, _∙_}
 use mathlib.Core.Bool.{Bool, true, false}
 use mathlib.Core.List.{List, [], _∷_}
 use Prim.Native.Nat.{ℕ}
-use native.Mathlib.Omega.{arith}
 use lib.Dec.{T}
-use Rattle.arithmetic.proofs.Limits.{clash}
-use Rattle.rolls.specs.Outcome.{Outcome, refused, Refusal, decide}
-use Rattle.rolls.proofs.Deciding.{decide-here, decide-past, decide-none}
+use Rattle.rules.proofs.Facts.{clash}
+use Rattle.answers.specs.Outcome.{Outcome, refused, Refusal, decide}
+use Rattle.answers.proofs.Deciding.{decide-here, decide-past, decide-none}
 use Rattle.promises.specs.Demand1.{firstOf, AsRefused}
 use Rattle.promises.specs.Demand2.{Allowed}
 

@@ -7,20 +7,21 @@ use native.Mathlib.Nat.{not-suc-le-zero, le-of-suc-le-suc, mul-one}
 use native.Mathlib.Omega.{arith}
 use lib.Dec.{lit≤, lit<}
 use lib.ListN.{length, take, getD, replicate}
-use Rattle.arithmetic.specs.Rolls.{rolls, rest, product, inRange, hasZero}
-use Rattle.arithmetic.specs.Width.{w64, size64}
-use Rattle.rolls.specs.Run.{find, runFrom, run, trace, rollsOf, next, rejected}
-use Rattle.rolls.specs.Cut.{cutFrom, cut}
-use Rattle.rolls.specs.Outcome.{decide}
-use Rattle.rolls.specs.Operations.{batchRefusals, rollBatch, listRefusals, rollList}
-use Rattle.draws.specs.Shuffle.{exchange, shuffleWith, countdown, shufflePlanFrom, shufflePlan}
-use Rattle.draws.specs.Sample.{countup}
-use Rattle.draws.specs.Order.{eachOnce, AllBelow}
-use Rattle.draws.specs.Plan.{Rollable, RollablePlan}
-use Rattle.draws.specs.Operations.{shuffleRefusals, shuffle}
+use Rattle.rules.specs.Rolls.{rolls, rest, product, inRange, hasZero}
+use Rattle.rules.specs.Width.{w64, size64}
+use Rattle.rules.specs.Run.{find, runFrom, run, trace, rollsOf, next, rejected}
+use Rattle.rules.specs.Cut.{cutFrom, cut}
+use Rattle.answers.specs.Outcome.{decide}
+use Rattle.rolls.specs.Batch.{batchRefusals, rollBatch}
+use Rattle.lists.specs.List.{listRefusals, rollList}
+use Rattle.rules.specs.Shuffle.{exchange, shuffleWith, countdown, shufflePlanFrom, shufflePlan}
+use Rattle.rules.specs.Reservoir.{countup}
+use Rattle.rules.specs.Order.{eachOnce, AllBelow}
+use Rattle.rules.specs.Plan.{Rollable, RollablePlan}
+use Rattle.shuffles.specs.Shuffle.{shuffleRefusals, shuffle}
 use Rattle.sheet.specs.Sheet.{little, entries}
-use Rattle.draws.proofs.Each.{countup-distinct}
-use Rattle.draws.proofs.Orders.{shuffle-reorders}
+use Rattle.rules.proofs.Each.{countup-distinct}
+use Rattle.rules.proofs.Orders.{shuffle-reorders}
 use Rattle.sheet.specs.declared.run.Drawn.{Drawn}
 use Rattle.promises.specs.Contracts.{Operations, contracts, MeetsBack}
 use Rattle.promises.specs.Demand1.{firstOf}

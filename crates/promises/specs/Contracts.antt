@@ -21,14 +21,18 @@ use mathlib.Core.Path.{_≡_}
 use mathlib.Core.List.{List}
 use Prim.Native.Nat.{ℕ}
 use lib.ListN.{length}
-use Rattle.arithmetic.specs.Width.{w64}
-use Rattle.rolls.specs.Outcome.{Outcome, shown, shownBatch, shownBehind, left}
-use Rattle.rolls.specs.Operations.{rollBatch, rollList, wordsBehind}
-use Rattle.draws.specs.Operations.{shuffle, sample, rollsBehind}
+use Rattle.rules.specs.Width.{w64}
+use Rattle.answers.specs.Outcome.{Outcome, shown, shownBatch, shownBehind, left}
+use Rattle.rolls.specs.Batch.{rollBatch}
+use Rattle.lists.specs.List.{rollList}
+use Rattle.runs.specs.Behind.{wordsBehind}
+use Rattle.shuffles.specs.Shuffle.{shuffle}
+use Rattle.draws.specs.Sample.{sample}
+use Rattle.orders.specs.Order.{rollsBehind}
 use Rattle.sheet.specs.Operations.{runSheet, shownDrawn}
-use Rattle.rolls.specs.declared.answer.Answer.{Answer}
-use Rattle.rolls.specs.declared.answer.Batch.{Batch}
-use Rattle.rolls.specs.declared.answer.Behind.{Behind}
+use Rattle.answers.specs.declared.answer.Answer.{Answer}
+use Rattle.answers.specs.declared.answer.Batch.{Batch}
+use Rattle.answers.specs.declared.answer.Behind.{Behind}
 use Rattle.sheet.specs.declared.run.Drawn.{Drawn}
 
 pub record Operations : Type 0 where

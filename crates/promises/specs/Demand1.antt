@@ -21,16 +21,20 @@ use mathlib.Core.List.{List, [], _∷_}
 use Prim.Native.Nat.{ℕ, _+_, _<_}
 use lib.Dec.{T}
 use lib.ListN.{length, take}
-use Rattle.arithmetic.specs.Width.{w64}
-use Rattle.rolls.specs.Run.{run, short, suffices}
-use Rattle.rolls.specs.Outcome.{Outcome, refused, Refusal, no, shown, shownBatch, shownBehind}
-use Rattle.rolls.specs.Operations.{batchRefusals, listRefusals, behindRefusals}
-use Rattle.draws.specs.Operations.{shuffleRefusals, sampleRefusals, orderRefusals}
+use Rattle.rules.specs.Width.{w64}
+use Rattle.rules.specs.Run.{run, short, suffices}
+use Rattle.answers.specs.Outcome.{Outcome, refused, Refusal, no, shown, shownBatch, shownBehind}
+use Rattle.rolls.specs.Batch.{batchRefusals}
+use Rattle.lists.specs.List.{listRefusals}
+use Rattle.runs.specs.Behind.{behindRefusals}
+use Rattle.shuffles.specs.Shuffle.{shuffleRefusals}
+use Rattle.draws.specs.Sample.{sampleRefusals}
+use Rattle.orders.specs.Order.{orderRefusals}
 use Rattle.sheet.specs.Sheet.{Sound, isSound}
 use Rattle.sheet.specs.Operations.{sheetRefusals, shownDrawn}
-use Rattle.rolls.specs.declared.answer.Answer.{Answer}
-use Rattle.rolls.specs.declared.answer.Batch.{Batch}
-use Rattle.rolls.specs.declared.answer.Behind.{Behind}
+use Rattle.answers.specs.declared.answer.Answer.{Answer}
+use Rattle.answers.specs.declared.answer.Batch.{Batch}
+use Rattle.answers.specs.declared.answer.Behind.{Behind}
 use Rattle.sheet.specs.declared.run.Drawn.{Drawn}
 use Rattle.promises.specs.Contracts.{Operations, contracts}
 

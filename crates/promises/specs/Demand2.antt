@@ -25,21 +25,25 @@ use mathlib.Core.List.{List, [], _∷_, _++_}
 use Prim.Native.Nat.{ℕ, _+_, _-_, _*_, _/_, _%_, _^_, _<_, _≤_}
 use lib.Dec.{T}
 use lib.ListN.{length, take, drop, getD, replicate}
-use Rattle.arithmetic.specs.Rolls.{product, value, hasZero, inRange}
-use Rattle.arithmetic.specs.Width.{w64, size64}
-use Rattle.rolls.specs.Run.{run, suffices}
-use Rattle.rolls.specs.Cut.{cut}
-use Rattle.rolls.specs.Outcome.{done, Refusal}
-use Rattle.rolls.specs.Operations.{batchRefusals, listRefusals, behindRefusals}
-use Rattle.draws.specs.Shuffle.{shuffleWith, shuffleBounds, shufflePlan}
-use Rattle.draws.specs.Sample.{countup, reservoir}
-use Rattle.draws.specs.Order.{AllBelow, Only}
-use Rattle.draws.specs.Plan.{RollablePlan, PlanOf}
-use Rattle.draws.specs.Operations.{samplePlan, shuffleRefusals, sampleRefusals, orderRefusals}
+use Rattle.rules.specs.Rolls.{product, value, hasZero, inRange}
+use Rattle.rules.specs.Width.{w64, size64}
+use Rattle.rules.specs.Run.{run, suffices}
+use Rattle.rules.specs.Cut.{cut}
+use Rattle.answers.specs.Outcome.{done, Refusal}
+use Rattle.rolls.specs.Batch.{batchRefusals}
+use Rattle.lists.specs.List.{listRefusals}
+use Rattle.runs.specs.Behind.{behindRefusals}
+use Rattle.rules.specs.Shuffle.{shuffleWith, shuffleBounds, shufflePlan}
+use Rattle.rules.specs.Reservoir.{countup, reservoir}
+use Rattle.rules.specs.Order.{AllBelow, Only}
+use Rattle.rules.specs.Plan.{RollablePlan, PlanOf}
+use Rattle.draws.specs.Sample.{samplePlan, sampleRefusals}
+use Rattle.shuffles.specs.Shuffle.{shuffleRefusals}
+use Rattle.orders.specs.Order.{orderRefusals}
 use Rattle.sheet.specs.Sheet.{numbers, wordsOf, recordsOf}
 use Rattle.sheet.specs.Operations.{sheetRefusals, shownDrawn}
-use Rattle.rolls.specs.declared.answer.Batch.{Batch}
-use Rattle.rolls.specs.declared.answer.Behind.{Behind}
+use Rattle.answers.specs.declared.answer.Batch.{Batch}
+use Rattle.answers.specs.declared.answer.Behind.{Behind}
 use Rattle.promises.specs.Contracts.{Operations, contracts}
 use Rattle.promises.specs.Demand1.{firstOf}
 

@@ -24,12 +24,12 @@ use mathlib.Core.Logic.{_↔_}
 use mathlib.Core.List.{List, [], _∷_}
 use Prim.Native.Nat.{ℕ, _-_, _^_, _≤_}
 use lib.ListN.{length, take, drop, replicate}
-use Rattle.arithmetic.specs.Width.{size64}
-use Rattle.draws.specs.Shuffle.{shufflePlan}
-use Rattle.draws.specs.Sample.{countup}
-use Rattle.draws.specs.Order.{placeOf, AllBelow, Distinct, Reorders}
-use Rattle.rolls.specs.declared.answer.Answer.{Answer}
-use Rattle.rolls.specs.declared.answer.Behind.{Behind}
+use Rattle.rules.specs.Width.{size64}
+use Rattle.rules.specs.Shuffle.{shufflePlan}
+use Rattle.rules.specs.Reservoir.{countup}
+use Rattle.rules.specs.Order.{placeOf, AllBelow, Distinct, Reorders}
+use Rattle.answers.specs.declared.answer.Answer.{Answer}
+use Rattle.answers.specs.declared.answer.Behind.{Behind}
 use Rattle.promises.specs.Demand2.{FullRun}
 use Rattle.promises.specs.Contracts.{Operations, contracts, MeetsBack}
 

@@ -14,12 +14,14 @@ use mathlib.Core.Bool.{Bool, true, false, not, _&&_}
 use mathlib.Core.List.{List, [], _∷_}
 use Prim.Native.Nat.{ℕ, _+_, _-_, _^_}
 use lib.Dec.{T, eqb}
-use Rattle.arithmetic.specs.Width.{w64}
-use Rattle.arithmetic.specs.Rolls.{rolls, rest, product, threshold, accepted}
-use Rattle.rolls.specs.Outcome.{Outcome, refused, done, left}
-use Rattle.rolls.specs.Operations.{rollBatch, wordsBehind}
-use Rattle.draws.specs.Sample.{countup}
-use Rattle.draws.specs.Operations.{shuffle, rollsBehind}
+use Rattle.rules.specs.Width.{w64}
+use Rattle.rules.specs.Rolls.{rolls, rest, product, threshold, accepted}
+use Rattle.answers.specs.Outcome.{Outcome, refused, done, left}
+use Rattle.rolls.specs.Batch.{rollBatch}
+use Rattle.runs.specs.Behind.{wordsBehind}
+use Rattle.rules.specs.Reservoir.{countup}
+use Rattle.shuffles.specs.Shuffle.{shuffle}
+use Rattle.orders.specs.Order.{rollsBehind}
 
 abbrev pub same : List ℕ → List ℕ → Bool
 same [] [] = true

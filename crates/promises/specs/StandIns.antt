@@ -16,10 +16,10 @@ use mathlib.Core.Logic.{_≢_}
 use mathlib.Core.List.{List}
 use Prim.Native.Nat.{ℕ, _≤_}
 use lib.ListN.{length, take}
-use Rattle.arithmetic.specs.Width.{w64, size64}
-use Rattle.rolls.specs.Run.{run, trace, rollsOf}
-use Rattle.draws.specs.Shuffle.{shuffleWith, shufflePlan}
-use Rattle.draws.specs.Operations.{shuffleRefusals}
+use Rattle.rules.specs.Width.{w64, size64}
+use Rattle.rules.specs.Run.{run, trace, rollsOf}
+use Rattle.rules.specs.Shuffle.{shuffleWith, shufflePlan}
+use Rattle.shuffles.specs.Shuffle.{shuffleRefusals}
 use Rattle.promises.specs.Contracts.{Operations, MeetsBack}
 use Rattle.promises.specs.Demand1.{firstOf}
 use Rattle.promises.specs.Demand2.{Demand2}

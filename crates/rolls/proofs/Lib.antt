@@ -1,12 +1,5 @@
-pub mod Cutting
-pub mod Deciding
-pub mod Filling
-pub mod Finding
-pub mod Listing
 pub mod OneBatch
-pub mod OneList
-pub mod Radix
-pub mod Running
+pub mod Searching
+pub mod Stepping
 pub mod Supplying
-pub mod WayBack
-pub mod Writing
+pub mod Unfolding

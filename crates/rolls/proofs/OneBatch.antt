@@ -15,21 +15,23 @@ use native.Mathlib.Nat.{suc-sub-suc, sub-zero, mod-eq-of-lt}
 use native.Mathlib.Omega.{arith}
 use lib.Dec.{ltb}
 use lib.ListN.{length, drop, replicate}
-use Rattle.arithmetic.specs.Rolls.{rolls, product, threshold, accepted, hasZero}
+use Rattle.rules.specs.Rolls.{rolls, product, threshold, accepted, hasZero}
 use Rattle.arithmetic.specs.Products.{against}
 use Rattle.arithmetic.specs.declared.bounds.Product.the-variants.{Below, Whole, Above}
-use Rattle.arithmetic.specs.Width.{w64}
+use Rattle.rules.specs.Width.{w64}
 use borrow.Author.Tests.{ltb-false, le-ltb, lt-ltb}
-use Rattle.arithmetic.proofs.Limits.{or-left, or-right, held-below, held-whole, held-above}
-use Rattle.arithmetic.proofs.Rolls.{rolls-length}
-use Rattle.rolls.specs.Run.{Taken, found, missing, find, Run, ran, suffices, runFrom, run, trace, rollsOf, next, rejected}
-use Rattle.rolls.specs.Outcome.{refused, done, decide, outside, ofWords, fromRun, shownBatch}
-use Rattle.rolls.specs.Operations.{rollBatch}
+use Rattle.rules.proofs.Facts.{or-left, or-right}
+use Rattle.arithmetic.proofs.Limits.{held-below, held-whole, held-above}
+use Rattle.rules.proofs.Rolls.{rolls-length}
+use Rattle.rules.specs.Run.{Taken, found, missing, find, Run, ran, suffices, runFrom, run, trace, rollsOf, next, rejected}
+use Rattle.answers.specs.Outcome.{refused, done, decide, outside, ofWords, fromRun, shownBatch}
+use Rattle.rolls.specs.Batch.{rollBatch}
 use Rattle.rolls.specs.Inner.{passes, searched}
 use Rattle.rolls.specs.declared.search.Search.the-variants.{Hit, Missing}
-use Rattle.rolls.proofs.Deciding.{OfBatch, of-batch, no-start, no-words, words-done}
-use Rattle.rolls.proofs.Finding.{find-batch, find-within, searched-hit, searched-missing}
-use Rattle.rolls.proofs.Running.{run-hit, run-missing}
+use Rattle.answers.proofs.Deciding.{OfBatch, of-batch, no-start, no-words, words-done}
+use Rattle.rolls.proofs.Searching.{find-batch, searched-hit, searched-missing}
+use Rattle.rules.proofs.Finding.{find-within}
+use Rattle.rules.proofs.Running.{run-hit, run-missing}
 
 module _ (bs : List ℕ) (count : outside 1 16 (length bs) ≡ false) where
   pub some-bounds : 0 < length bs

@@ -8,12 +8,13 @@ use mathlib.Core.List.{List, [], _∷_}
 use Prim.Native.Nat.{ℕ, _+_, _≤_}
 use native.Mathlib.Omega.{arith}
 use lib.ListN.{length, drop}
-use Rattle.arithmetic.specs.Rolls.{accepted}
-use Rattle.rolls.specs.Run.{Found, find, runFrom, run, next, rejected}
-use Rattle.rolls.specs.Inner.{searched, supplied}
+use Rattle.rules.specs.Rolls.{accepted}
+use Rattle.rules.specs.Run.{Found, find, runFrom, run, next, rejected}
+use Rattle.rolls.specs.Inner.{searched}
+use Rattle.answers.specs.Supplied.{supplied}
 use Rattle.rolls.specs.declared.search.Search.the-variants.{Hit, Missing}
-use Rattle.rolls.specs.declared.supply.Supply.the-variants.{Enough, Short}
-use Rattle.rolls.proofs.Running.{finish, finish-none, finish-hit, finish-missing, hit-passed, hit-within}
+use Rattle.answers.specs.declared.supply.Supply.the-variants.{Enough, Short}
+use Rattle.rolls.proofs.Stepping.{finish, finish-none, finish-hit, finish-missing, hit-passed, hit-within}
 
 -- the batches of the plan before those that are left have their words, r were rejected, and the rest of the run starts at `to`
 abbrev pub Supplying : ℕ → List (List ℕ) → List ℕ → ℕ → List (List ℕ) → ℕ → ℕ → ℕ → Type 0

@@ -7,19 +7,11 @@
 --   begins plan            the first batch of a plan
 --   cutAt bs at            where the batch that begins at a place of the list ends, and its product
 use mathlib.Core.Bool.{Bool}
-use mathlib.Core.List.{List, [], _∷_}
-use Prim.Native.Nat.{ℕ, _+_, _-_, _*_, _/_, _%_, _^_}
+use Prim.Native.Nat.{ℕ, _-_, _*_, _%_, _^_}
 use lib.Dec.{leb}
-use lib.ListN.{length, drop}
-use Rattle.arithmetic.specs.Rolls.{product, threshold, up}
-use Rattle.rolls.specs.Run.{Found, found, missing, Run, ran, short, next, rejected}
-use Rattle.rolls.specs.Cut.{cut}
+use Rattle.rules.specs.Run.{Found, found, missing}
 use Rattle.rolls.specs.declared.search.Search.{Search}
 use Rattle.rolls.specs.declared.search.Search.the-variants.{Hit, Missing}
-use Rattle.rolls.specs.declared.supply.Supply.{Supply}
-use Rattle.rolls.specs.declared.supply.Supply.the-variants.{Enough, Short}
-use Rattle.rolls.specs.declared.answer.Behind.{Behind}
-use Rattle.rolls.specs.declared.cut.Cut.{Cut}
 
 abbrev pub passes : ℕ → ℕ → ℕ → Bool
 passes b t w = leb t (b * w % 2 ^ 64)
@@ -27,21 +19,3 @@ passes b t w = leb t (b * w % 2 ^ 64)
 abbrev pub searched : ℕ → Found → Search
 searched start (found t) = Hit (t .word) (t .place) (t .place - start)
 searched start missing = Missing
-
-abbrev pub supplied : ℕ → Run → Supply
-supplied start (ran ts) = Enough (next start ts) (rejected start ts)
-supplied start (short batch) = Short batch
-
-abbrev pub runBehind : ℕ → ℕ → ℕ → Behind
-runBehind L b a =
-    let first : ℕ = up (2 ^ L * a + threshold L b) b in
-    record { no = 0; next = 0; rejected = 0; first = first; last = first + 2 ^ L / b - 1 }
-
-abbrev pub begins : List (List ℕ) → List ℕ
-begins [] = []
-begins (batch ∷ plan) = batch
-
-abbrev pub cutAt : List ℕ → ℕ → Cut
-cutAt bs at =
-    let batch : List ℕ = begins (cut (2 ^ 56) (drop at bs)) in
-    record { end = at + length batch; product = product batch }

@@ -1,5 +1,2 @@
-pub mod Run
-pub mod Cut
-pub mod Outcome
-pub mod Operations
+pub mod Batch
 pub mod Inner

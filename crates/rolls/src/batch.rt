@@ -1,11 +1,11 @@
 // One batch of bounds.
-use super::answer::Batch;
-use super::answer::refused_batch;
-use super::cut::MAX_BATCH;
-use super::refusal;
 use super::search::Search;
 use super::search::find_word;
 use super::unfold::write_rolls;
+use answers::answer::Batch;
+use answers::answer::refused_batch;
+use answers::limits::MAX_BATCH;
+use answers::refusal;
 use arithmetic::bounds::Product;
 use arithmetic::bounds::has_zero;
 use arithmetic::bounds::product_of;
@@ -15,10 +15,10 @@ ghost use mathlib.Core.Bool.{false};
 ghost use Prim.Native.Nat.{_%_, _^_};
 ghost use lib.Dec.{ltb};
 ghost use lib.ListN.{length};
-ghost use Rattle.arithmetic.specs.Rolls.{product, threshold, hasZero};
-ghost use Rattle.arithmetic.specs.Width.{w64};
-ghost use Rattle.rolls.specs.Outcome.{outside, shownBatch};
-ghost use Rattle.rolls.specs.Operations.{rollBatch};
+ghost use Rattle.rules.specs.Rolls.{product, threshold, hasZero};
+ghost use Rattle.rules.specs.Width.{w64};
+ghost use Rattle.answers.specs.Outcome.{outside, shownBatch};
+ghost use Rattle.rolls.specs.Batch.{rollBatch};
 
 // One batch whose bounds are not refused, with their product taken at 64 bits and their threshold.
 fn draw_batch(words: &[u64], start: usize, bounds: &[u64], b: u64, t: u64) -> Batch

@@ -3,7 +3,7 @@ use arithmetic::wide::low;
 ghost use mathlib.Core.Path.{_≡_};
 ghost use Prim.Native.Nat.{_≤_};
 ghost use lib.ListN.{length, drop};
-ghost use Rattle.rolls.specs.Run.{find};
+ghost use Rattle.rules.specs.Run.{find};
 ghost use Rattle.rolls.specs.Inner.{passes, searched};
 
 // The word that a batch takes, its place, and how many words before it were rejected; or that the list ended.

@@ -5,7 +5,7 @@ ghost use mathlib.Core.Path.{_≡_};
 ghost use mathlib.Core.List.{_++_};
 ghost use Prim.Native.Nat.{_≤_};
 ghost use lib.ListN.{length, drop};
-ghost use Rattle.arithmetic.specs.Rolls.{rolls};
+ghost use Rattle.rules.specs.Rolls.{rolls};
 
 // Writes the word's rolls to the front of the lent list; the rest of it stays.
 pub fn write_rolls(word: u64, bounds: &[u64], out: &mut [u64])

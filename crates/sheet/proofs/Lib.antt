@@ -1,4 +1,3 @@
 pub mod OneSheet
 pub mod Reading
 pub mod Soundness
-pub mod Spelling

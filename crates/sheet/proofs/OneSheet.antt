@@ -25,13 +25,13 @@ use lib.Dec.{ltb}
 use lib.ListN.{length, take}
 use lib.Seq.{take-at}
 use borrow.Author.Tests.{lt-ltb, le-ltb}
-use Rattle.arithmetic.specs.Width.{w64}
-use Rattle.arithmetic.proofs.Limits.{or-left}
-use Rattle.rolls.specs.Run.{run}
-use Rattle.rolls.specs.Outcome.{Outcome, refused, done, Refusal, no, noWord, decide, outside, shown, left}
-use Rattle.rolls.specs.declared.answer.Answer.{Answer}
-use Rattle.rolls.proofs.Deciding.{decide-here, decide-past, decide-under, in-count, below-count, above-count}
-use Rattle.draws.specs.Operations.{samplePlan, sampled, sample}
+use Rattle.rules.specs.Width.{w64}
+use Rattle.rules.proofs.Facts.{or-left}
+use Rattle.rules.specs.Run.{run}
+use Rattle.answers.specs.Outcome.{Outcome, refused, done, Refusal, no, noWord, decide, outside, shown, left}
+use Rattle.answers.specs.declared.answer.Answer.{Answer}
+use Rattle.answers.proofs.Deciding.{decide-here, decide-past, decide-under, in-count, below-count, above-count}
+use Rattle.draws.specs.Sample.{samplePlan, sampled, sample}
 use Rattle.sheet.specs.Sheet.{Numbers, numbers, entries, wordsOf, recordsOf, isSound}
 use Rattle.sheet.specs.Operations.{runSheet, shownDrawn}
 use Rattle.sheet.specs.declared.run.Drawn.{Drawn}

@@ -21,12 +21,12 @@ use lib.Dec.{T, ltb}
 use lib.Ieee.Bits.{is-true}
 use lib.ListN.{length}
 use borrow.Author.Tests.{not-true, ltb-true, ltb-false, leb-true, le-leb}
-use Rattle.arithmetic.specs.Width.{Width}
-use Rattle.arithmetic.proofs.Limits.{or-left, or-right}
-use Rattle.rolls.specs.Run.{Run, ran, short, run}
-use Rattle.rolls.specs.Outcome.{Outcome, refused, done, Refusal, no, noWord, decide}
-use Rattle.rolls.proofs.Deciding.{decide-here, decide-past, in-count}
-use Rattle.draws.specs.Operations.{samplePlan}
+use Rattle.rules.specs.Width.{Width}
+use Rattle.rules.proofs.Facts.{or-left, or-right}
+use Rattle.rules.specs.Run.{Run, ran, short, run}
+use Rattle.answers.specs.Outcome.{Outcome, refused, done, Refusal, no, noWord, decide}
+use Rattle.answers.proofs.Deciding.{decide-here, decide-past, in-count}
+use Rattle.draws.specs.Sample.{samplePlan}
 use Rattle.sheet.specs.Sheet.{Numbers, numbers, entries, wordsOf, recordsOf, wordsEnd, recordsEnd, Sound, isSound}
 use Rattle.sheet.specs.Operations.{sheetRefusals, runSheet}
 

@@ -1,4 +1,2 @@
-pub mod Sheet
 pub mod Operations
-pub mod Text
-pub mod Inner
+pub mod Sheet

@@ -7,10 +7,10 @@ use mathlib.Core.Bool.{not, _||_}
 use mathlib.Core.List.{List, [], _∷_}
 use Prim.Native.Nat.{ℕ}
 use lib.Dec.{ltb}
-use Rattle.arithmetic.specs.Width.{Width}
-use Rattle.rolls.specs.Run.{run}
-use Rattle.rolls.specs.Outcome.{Outcome, refused, done, Refusal, no, noWord, decide, outside}
-use Rattle.draws.specs.Operations.{samplePlan, sampled}
+use Rattle.rules.specs.Width.{Width}
+use Rattle.rules.specs.Run.{run}
+use Rattle.answers.specs.Outcome.{Outcome, refused, done, Refusal, no, noWord, decide, outside}
+use Rattle.draws.specs.Sample.{samplePlan, sampled}
 use Rattle.sheet.specs.Sheet.{Numbers, numbers, wordsOf, recordsOf, isSound}
 use Rattle.sheet.specs.declared.run.Drawn.{Drawn}
 

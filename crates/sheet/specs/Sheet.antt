@@ -13,7 +13,7 @@ use mathlib.Core.List.{List, [], _∷_}
 use Prim.Native.Nat.{ℕ, zero, suc, _+_, _*_, _<_, _≤_, min, max}
 use lib.Dec.{leb, ltb}
 use lib.ListN.{length, take, drop}
-use Rattle.rolls.specs.Outcome.{outside}
+use Rattle.answers.specs.Outcome.{outside}
 
 unfoldable pub little : List ℕ → ℕ
 little [] = 0

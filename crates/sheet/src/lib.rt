@@ -1,6 +1,5 @@
-// Draw sheets: what a sheet holds, when it is sound, running it, and the lines that tell of the draw.
+// Draw sheets: what a sheet holds, when it is sound, and running it.
 //
-// Contracts cite specs/: Sheet (six numbers, two areas, soundness), Operations (the draw of a sheet) and Text (the lines).
+// Contracts cite specs/: Sheet (six numbers, two areas, soundness) and Operations (the draw of a sheet).
 pub mod bytes;
 pub mod run;
-pub mod text;

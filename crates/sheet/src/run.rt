@@ -2,17 +2,17 @@
 use super::bytes::read_number;
 use super::bytes::read_records;
 use super::bytes::read_words;
+use answers::answer::Answer;
+use answers::refusal;
 use draws::sample::sample_records;
-use rolls::answer::Answer;
-use rolls::refusal;
 ghost use mathlib.Core.Path.{_≡_};
 ghost use mathlib.Core.List.{[]};
 ghost use Prim.Native.Nat.{_≤_, min, max};
 ghost use lib.Dec.{ltb};
 ghost use lib.ListN.{length};
-ghost use Rattle.arithmetic.specs.Width.{w64};
-ghost use Rattle.rolls.specs.Outcome.{refused, done, shown, left};
-ghost use Rattle.draws.specs.Operations.{sample};
+ghost use Rattle.rules.specs.Width.{w64};
+ghost use Rattle.answers.specs.Outcome.{refused, done, shown, left};
+ghost use Rattle.draws.specs.Sample.{sample};
 ghost use Rattle.sheet.specs.Sheet.{numbers, wordsOf, recordsOf, Sound, isSound};
 ghost use Rattle.sheet.specs.Operations.{runSheet, shownDrawn};
 

@@ -1,8 +1,8 @@
 -- `draw_sheet::print_first` is safe and ends. It turns on the line, which is within the array that it was written to. Assumes nothing.
 use mathlib.Core.List.{List}
 use Prim.Native.Nat.{ℕ}
-use Rattle.sheet.specs.Text.{firstLine}
-use Rattle.sheet.proofs.Spelling.{line-within, line-count}
+use Rattle.lines.specs.Text.{firstLine}
+use Rattle.lines.proofs.Spelling.{line-within, line-count}
 use borrow.Author.Needs.{needs}
 use Rattle.draw_sheet.proofs.print_first.Statement.{statement}
 use Rattle.draw_sheet.proofs.print_first.Tie as tie

@@ -4,8 +4,8 @@ use mathlib.Core.Path.{_≡_, _∙_, sym}
 use Prim.Native.Nat.{_-_, _≤_}
 use borrow.Author.Needs.{needs}
 use lib.ListN.{length, drop}
-use Rattle.arithmetic.specs.Rolls.{hasZero}
-use Rattle.arithmetic.proofs.Limits.{zero-here, zero-later, zero-none}
+use Rattle.rules.specs.Rolls.{hasZero}
+use Rattle.rules.proofs.Products.{zero-here, zero-later, zero-none}
 use Rattle.arithmetic.proofs.bounds.has_zero.Statement.{statement}
 use Rattle.arithmetic.proofs.bounds.has_zero.Tie as tie
 

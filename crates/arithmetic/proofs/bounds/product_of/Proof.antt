@@ -6,10 +6,11 @@ use Prim.Native.Nat.{ℕ, _-_, _≤_}
 use borrow.Author.Needs.{needs}
 use lib.ListN.{length, take, getD}
 use lib.Seq.{take-all}
-use Rattle.arithmetic.specs.Rolls.{product}
+use Rattle.rules.specs.Rolls.{product}
 use Rattle.arithmetic.specs.Products.{against, grown}
 use Rattle.arithmetic.specs.declared.bounds.Product.{Product}
-use Rattle.arithmetic.proofs.Limits.{zero-nowhere, grown-against, product-more}
+use Rattle.rules.proofs.Products.{zero-nowhere, product-more}
+use Rattle.arithmetic.proofs.Limits.{grown-against}
 use Rattle.arithmetic.proofs.bounds.product_of.Statement.{statement}
 use Rattle.arithmetic.proofs.bounds.product_of.Tie as tie
 

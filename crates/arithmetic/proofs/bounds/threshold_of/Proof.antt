@@ -2,7 +2,7 @@
 -- as 2^64. Assumes nothing.
 use mathlib.Core.Path.{_≡_, _∙_, ap}
 use Prim.Native.Nat.{ℕ, _-_, _%_, _^_}
-use Rattle.arithmetic.proofs.Rolls.{threshold-wraps}
+use Rattle.rules.proofs.Rolls.{threshold-wraps}
 use native.Mathlib.Omega.{arith}
 use borrow.Author.Needs.{needs}
 use Rattle.arithmetic.proofs.bounds.threshold_of.Statement.{statement}

@@ -8,9 +8,9 @@ use native.Mathlib.Omega.{arith}
 use borrow.Author.Needs.{needs}
 use lib.ListN.{length}
 use lib.Seq.{drop-length}
-use Rattle.rolls.proofs.Writing.{Written, written-none, written-turn, written-whole}
-use Rattle.draws.specs.Sample.{countup}
-use Rattle.draws.proofs.Plans.{countup-length, countup-at}
+use Rattle.rules.proofs.Writing.{Written, written-none, written-turn, written-whole}
+use Rattle.rules.specs.Reservoir.{countup}
+use Rattle.rules.proofs.Rows.{countup-length, countup-at}
 use Rattle.draws.proofs.sample.count_up.Statement.{statement}
 use Rattle.draws.proofs.sample.count_up.Tie as tie
 

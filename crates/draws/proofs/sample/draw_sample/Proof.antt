@@ -4,12 +4,13 @@ use mathlib.Core.List.{_++_}
 use Prim.Native.Nat.{ℕ, _^_}
 use lib.ListN.{length, take, drop}
 use borrow.Author.Tests.{le-ltb}
-use Rattle.rolls.specs.Run.{run, trace, rollsOf}
-use Rattle.rolls.specs.Cut.{cut}
-use Rattle.rolls.proofs.Deciding.{in-count, supplied-enough, refused-seen, done-seen}
-use Rattle.draws.specs.Sample.{reservoir}
+use Rattle.rules.specs.Run.{run, trace, rollsOf}
+use Rattle.rules.specs.Cut.{cut}
+use Rattle.answers.proofs.Deciding.{in-count, supplied-enough, refused-seen, done-seen}
+use Rattle.rules.specs.Reservoir.{reservoir}
 use Rattle.draws.proofs.Sampling.{bounds-no-zero}
-use Rattle.draws.proofs.OneSample.{sample-short, sample-done, sample-length}
+use Rattle.draws.proofs.OneSample.{sample-short, sample-done}
+use Rattle.rules.proofs.Reservoir.{sample-length}
 use borrow.Author.Needs.{needs}
 use Rattle.draws.proofs.sample.draw_sample.Statement.{statement}
 use Rattle.draws.proofs.sample.draw_sample.Tie as tie

@@ -6,9 +6,9 @@ use native.Mathlib.Omega.{arith}
 use mathlib.Core.List.{List, _++_}
 use native.Mathlib.Nat.{le-refl}
 use lib.ListN.{length, take, drop, replicate, length-replicate}
-use Rattle.rolls.specs.Run.{run, trace, rollsOf}
-use Rattle.rolls.specs.Cut.{cut}
-use Rattle.draws.specs.Sample.{reservoir}
+use Rattle.rules.specs.Run.{run, trace, rollsOf}
+use Rattle.rules.specs.Cut.{cut}
+use Rattle.rules.specs.Reservoir.{reservoir}
 use Rattle.draws.proofs.Sampling.{prefix-count, array-kept, prefix-back, prefix-rolls, slots-drawn, bound-count, bounds-no-zero}
 use borrow.Author.Needs.{needs}
 use Rattle.draws.proofs.sample.fill_slots.Statement.{statement}

@@ -6,8 +6,8 @@ use Prim.Native.Nat.{ℕ, _+_, _-_, _≤_}
 use native.Mathlib.Omega.{arith}
 use lib.ListN.{length, take, drop, replicate, length-replicate}
 use borrow.Author.Tests.{lt-ltb, le-ltb}
-use Rattle.rolls.proofs.Deciding.{in-count, below-count, above-count, refused-seen}
-use Rattle.draws.specs.Sample.{countup}
+use Rattle.answers.proofs.Deciding.{in-count, below-count, above-count, refused-seen}
+use Rattle.rules.specs.Reservoir.{countup}
 use Rattle.draws.proofs.Sampling.{prefix-count, array-kept, prefix-back}
 use Rattle.draws.proofs.OneSample.{sample-count, sample-size, sample-room, sample-start}
 use borrow.Author.Needs.{needs}

@@ -5,7 +5,7 @@ use Prim.Native.Nat.{_-_, _<_}
 use borrow.Author.Needs.{needs}
 use lib.ListN.{take}
 use lib.Seq.{length-take-le, getD-take}
-use Rattle.rolls.proofs.Writing.{Written, written-none, written-turn, written-whole}
+use Rattle.rules.proofs.Writing.{Written, written-none, written-turn, written-whole}
 use Rattle.draws.proofs.sample.take_first.Statement.{statement}
 use Rattle.draws.proofs.sample.take_first.Tie as tie
 

@@ -4,7 +4,7 @@ use mathlib.Core.Path.{_∙_, sym, ap}
 use Prim.Native.Nat.{_≤_}
 use native.Mathlib.Omega.{arith}
 use lib.ListN.{length}
-use Rattle.rolls.specs.Outcome.{shownBatch}
+use Rattle.answers.specs.Outcome.{shownBatch}
 use Rattle.rolls.proofs.OneBatch.{few-bounds, one-start, one-searched, one-not-found, shown-hit}
 use borrow.Author.Needs.{needs}
 use Rattle.rolls.proofs.batch.draw_batch.Statement.{statement}

@@ -1,10 +1,11 @@
 -- `rolls::batch::roll_batch` meets its contract, refusal by refusal (OneBatch); the product is held against 2^64. Assumes nothing.
 use mathlib.Core.Path.{_∙_, sym, ap}
 use lib.ListN.{length}
-use Rattle.arithmetic.specs.Rolls.{product}
-use Rattle.arithmetic.proofs.Limits.{held-below, product-pos}
-use Rattle.rolls.specs.Outcome.{shownBatch}
-use Rattle.rolls.proofs.Deciding.{in-count, below-count, above-count}
+use Rattle.rules.specs.Rolls.{product}
+use Rattle.arithmetic.proofs.Limits.{held-below}
+use Rattle.rules.proofs.Products.{product-pos}
+use Rattle.answers.specs.Outcome.{shownBatch}
+use Rattle.answers.proofs.Deciding.{in-count, below-count, above-count}
 use Rattle.rolls.proofs.OneBatch.{one-refusals, tested-below, tested-whole, above-refused}
 use borrow.Author.Needs.{needs}
 use Rattle.rolls.proofs.batch.roll_batch.Statement.{statement}

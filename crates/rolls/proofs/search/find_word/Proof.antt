@@ -6,9 +6,9 @@ use mathlib.Core.Path.{_≡_, _∙_, sym, ap}
 use Prim.Native.Nat.{ℕ, _-_, _≤_, _<_}
 use borrow.Author.Needs.{needs}
 use lib.ListN.{length, drop, getD}
-use Rattle.rolls.specs.Run.{find}
+use Rattle.rules.specs.Run.{find}
 use Rattle.rolls.specs.Inner.{passes, searched}
-use Rattle.rolls.proofs.Finding.{find-end, find-hit, find-miss}
+use Rattle.rules.proofs.Finding.{find-end, find-hit, find-miss}
 use Rattle.rolls.proofs.search.find_word.Statement.{statement}
 use Rattle.rolls.proofs.search.find_word.Tie as tie
 

@@ -3,7 +3,7 @@
 use Prim.Native.Nat.{_-_}
 use borrow.Author.Needs.{needs}
 use lib.ListN.{length}
-use Rattle.rolls.proofs.Writing.{Unfolding, unfold-turn, unfold-done}
+use Rattle.rolls.proofs.Unfolding.{Unfolding, unfold-turn, unfold-done}
 use Rattle.rolls.proofs.unfold.write_rolls.Statement.{statement}
 use Rattle.rolls.proofs.unfold.write_rolls.Tie as tie
 

@@ -3,7 +3,7 @@
 use mathlib.Core.Path.{_∙_, sym}
 use Prim.Native.Nat.{_-_, _<_}
 use borrow.Author.Needs.{needs}
-use Rattle.rolls.proofs.Writing.{Written, written-none, written-turn, written-whole}
+use Rattle.rules.proofs.Writing.{Written, written-none, written-turn, written-whole}
 use Rattle.sheet.specs.Sheet.{entries}
 use Rattle.sheet.proofs.Soundness.{entries-length}
 use Rattle.sheet.proofs.Reading.{entries-at}

@@ -5,9 +5,9 @@ use mathlib.Core.Bool.{true}
 use native.Mathlib.Omega.{arith}
 use lib.ListN.{length}
 use borrow.Author.Tests.{not-true, not-false}
-use Rattle.arithmetic.specs.Width.{w64}
-use Rattle.rolls.specs.Outcome.{Outcome}
-use Rattle.draws.specs.Operations.{sample}
+use Rattle.rules.specs.Width.{w64}
+use Rattle.answers.specs.Outcome.{Outcome}
+use Rattle.draws.specs.Sample.{sample}
 use Rattle.sheet.specs.Sheet.{numbers, wordsOf, recordsOf, Sound, isSound}
 use Rattle.sheet.specs.Operations.{runSheet}
 use Rattle.sheet.proofs.Soundness.{sound-known, sheet-refusal, four-only}

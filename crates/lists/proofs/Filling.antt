@@ -1,0 +1,135 @@
+-- Writing the rolls of a list of bounds, batch after batch, where the words suffice: the loop of `write_list`. Assumes nothing.
+--
+--   Filling                the rolls of the bounds before a place are written
+--   fill-none, fill-turn   before the first turn, and one turn
+--   fill-never             no word is missing
+--   fill-done              the rolls of the whole list are written
+--   list-length            a list has as many rolls as bounds
+use mathlib.Core.Path.{_≡_, refl, sym, ap, ap₂, _∙_}
+use mathlib.Core.Bool.{Bool, true, false}
+use mathlib.Core.List.{List, [], _∷_, _++_, append-assoc, append-nil}
+use Prim.Native.Nat.{ℕ, _+_, _-_, _^_, _<_, _≤_}
+use native.Mathlib.Omega.{arith}
+use lib.ListN.{length, take, drop, length-append, drop-of-length-le, take-append-drop}
+use borrow.Rule.Slice.PartMut.{putMid}
+use Rattle.rules.specs.Rolls.{rolls, threshold, accepted, hasZero}
+use Rattle.rules.proofs.Rolls.{rolls-length}
+use Rattle.rules.specs.Run.{Taken, Found, found, missing, find, Run, runFrom, run, rollsOf, suffices}
+use Rattle.rules.specs.Cut.{joins, cutFrom, cut}
+use Rattle.rolls.specs.Inner.{passes, searched}
+use Rattle.lists.specs.Inner.{cutAt}
+use Rattle.lists.specs.declared.cut.Cut.{Cut}
+use Rattle.rolls.specs.declared.search.Search.the-variants.{Hit, Missing}
+use Rattle.lists.proofs.Cutting.{part}
+use Rattle.lists.proofs.Listing.{batchAt, batch-within, batch-rest, batch-part, cut-end, cut-find}
+use Rattle.rules.proofs.Running.{rolledBy}
+use Rattle.rolls.proofs.Stepping.{hit-suffices, hit-rolled, hit-within, never-missing}
+use Rattle.rules.proofs.Writing.{wrote-front, wrote-back, wrote-length, lent, drop-more}
+
+-- ---- the loop
+
+-- what is left of the run, from the place to on, numbered from batch
+abbrev runLeft : List ℕ → List ℕ → ℕ → ℕ → ℕ → Run
+runLeft words bs at to batch = runFrom 64 (cut (2 ^ 56) (drop at bs)) words to batch
+
+abbrev whole : List ℕ → List ℕ → ℕ → List ℕ
+whole words bs start = rolledBy 64 (cut (2 ^ 56) bs) (run 64 (cut (2 ^ 56) bs) words start)
+
+-- the rolls of the bounds before `at` are written, and the rest of the run suffices
+abbrev pub Filling : List ℕ → ℕ → List ℕ → List ℕ → List ℕ → ℕ → ℕ → Type 0
+Filling words start bs out₀ out to at =
+    (to ≤ length words) × (at ≤ length bs) × (length out ≡ length out₀) × (drop at out ≡ drop at out₀)
+    × ((batch : ℕ) × (suffices (runLeft words bs at to batch) ≡ true)
+    × (take at out ++ rolledBy 64 (cut (2 ^ 56) (drop at bs)) (runLeft words bs at to batch) ≡ whole words bs start))
+
+pub fill-none : (words : List ℕ) (start : ℕ) (bs out : List ℕ) → start ≤ length words → suffices (run 64 (cut (2 ^ 56) bs) words start) ≡ true
+    → Filling words start bs out out start 0
+fill-none words start bs out h e = (h, omega arith, refl, refl, (0, e, refl))
+
+module _ (words : List ℕ) (start : ℕ) (bs out₀ out : List ℕ) (to at : ℕ) (v : Filling words start bs out₀ out to at) where
+  module _ (h : at < length bs) (z : hasZero bs ≡ false) (c : Cut) (e : c ≡ cutAt bs at) (f : c .product < 2 ^ 64) (t : ℕ) (g : t ≡ threshold 64 (c .product)) where
+    same : find (passes (c .product) t) (drop to words) to ≡ find (accepted 64 (batchAt bs at)) (drop to words) to
+    same = cut-find bs at h z c e t f g (drop to words) to
+
+    pub fill-never : searched to (find (passes (c .product) t) (drop to words) to) ≡ Missing → ⊥
+    fill-never s = never-missing 64 (batchAt bs at) _ words to (v .4 .0) _ same s (rw (batch-rest bs at h) at (v .4 .1))
+
+    pub fill-turn : (w place m : ℕ) → searched to (find (passes (c .product) t) (drop to words) to) ≡ Hit w place m → length bs ≤ length out₀
+        → (last : List ℕ) → last ≡ rolls 64 (part bs at (c .end)) w ++ drop (length (part bs at (c .end))) (take (length out - at) (drop at out))
+        → Filling words start bs out₀ (putMid at (length out - at) out last) (place + 1) (c .end)
+    fill-turn w place m s room last l =
+        let batch : List ℕ = batchAt bs at in
+        let d : List ℕ = rolls 64 batch w in
+        let n : length d ≡ length batch = rolls-length 64 batch w in
+        let end : c .end ≡ at + length d = cut-end bs at h z c e ∙ ap (λ (k : ℕ). at + k) (sym n) in
+        let p : part bs at (c .end) ≡ batch = rw (cut-end bs at h z c e) (sym (batch-part bs at h)) in
+        let fits : at + length d ≤ length out = omega (arith, n, batch-within bs at h, room, v .2) in
+        let wrote-d = lent out d at fits last (rw (p, ← n) at l) in
+        let plan : List (List ℕ) = cut (2 ^ 56) (drop (at + length d) bs) in
+        let rest : cut (2 ^ 56) (drop at bs) ≡ batch ∷ plan = rw n (batch-rest bs at h) in
+        let k : suffices (runFrom 64 (batch ∷ plan) words to (v .4 .0)) ≡ true = rw rest at (v .4 .1) in
+        rw (wrote-d, end) (
+          omega (arith, hit-within 64 batch plan words to (v .4 .0) _ same w place m s),
+          omega (arith, n, batch-within bs at h),
+          wrote-length out d at fits ∙ v .2,
+          wrote-back out d at fits ∙ drop-more out out₀ at (length d) (v .3),
+          (
+            v .4 .0 + 1,
+            hit-suffices 64 batch plan words to (v .4 .0) _ same w place m s k,
+            ap (λ (x : List ℕ). x ++ rolledBy 64 plan (runFrom 64 plan words (place + 1) (v .4 .0 + 1))) (wrote-front out d at fits)
+                ∙ append-assoc (take at out) d _
+                ∙ ap (λ (x : List ℕ). take at out ++ x) (sym (hit-rolled 64 batch plan words to (v .4 .0) _ same w place m s k))
+                ∙ (rw rest at (v .4 .2)),
+          ),
+        )
+
+  pub fill-done : length bs ≤ at → out ≡ whole words bs start ++ drop (length bs) out₀
+  unfolding cut runFrom rollsOf
+  fill-done h =
+      let e : at ≡ length bs = omega arith in
+      let front : take at out ≡ whole words bs start
+      = sym (append-nil (take at out))
+      ∙ ap (λ (l : List ℕ). take at out ++ rolledBy 64 (cut (2 ^ 56) l) (runFrom 64 (cut (2 ^ 56) l) words to (v .4 .0))) (sym (drop-of-length-le bs h))
+      ∙ v .4 .2 in
+      sym (take-append-drop at out) ∙ rw (front, v .3, e)
+
+-- ---- as many rolls as bounds
+
+total : List (List ℕ) → ℕ
+total [] = 0
+total (bs ∷ plan) = length bs + total plan
+
+total-cut-from : (limit : ℕ) (batch bs : List ℕ) → total (cutFrom limit batch bs) ≡ length batch + length bs
+unfolding total cutFrom
+total-cut-from limit batch [] = omega arith
+total-cut-from limit batch (b ∷ bs) = go (joins limit batch b) refl (total-cut-from limit (batch ++ b ∷ []) bs) (total-cut-from limit (b ∷ []) bs)
+  where
+    go : (t : Bool) → joins limit batch b ≡ t → total (cutFrom limit (batch ++ b ∷ []) bs) ≡ length (batch ++ b ∷ []) + length bs
+        → total (cutFrom limit (b ∷ []) bs) ≡ length (b ∷ []) + length bs → total (cutFrom limit batch (b ∷ bs)) ≡ length batch + length (b ∷ bs)
+    go true e more new = rw (e, cutFrom) (omega (arith, more, length-append batch (b ∷ [])))
+    go false e more new = rw (e, cutFrom) (omega (arith, new))
+
+total-cut : (limit : ℕ) (bs : List ℕ) → total (cut limit bs) ≡ length bs
+unfolding total cut
+total-cut limit [] = refl
+total-cut limit (b ∷ bs) = total-cut-from limit (b ∷ []) bs ∙ omega arith
+
+rolled-total : (L : ℕ) (plan : List (List ℕ)) (words : List ℕ) (start batch : ℕ) → suffices (runFrom L plan words start batch) ≡ true
+    → length (rolledBy L plan (runFrom L plan words start batch)) ≡ total plan
+unfolding total runFrom rollsOf
+rolled-total L [] words start batch e = refl
+rolled-total L (bs ∷ plan) words start batch e = go (find (accepted L bs) (drop start words) start) refl e (λ t. rolled-total L plan words (t .place + 1) (batch + 1))
+  where
+    go : (f : Found) → find (accepted L bs) (drop start words) start ≡ f → suffices (runFrom L (bs ∷ plan) words start batch) ≡ true
+        → ((t : Taken) → suffices (runFrom L plan words (t .place + 1) (batch + 1)) ≡ true
+        → length (rolledBy L plan (runFrom L plan words (t .place + 1) (batch + 1))) ≡ total plan)
+        → length (rolledBy L (bs ∷ plan) (runFrom L (bs ∷ plan) words start batch)) ≡ length bs + total plan
+    go (found t) f s ih =
+        ap length (hit-rolled L bs plan words start batch (found t) (sym f) (t .word) (t .place) _ refl s)
+        ∙ length-append (rolls L bs (t .word)) _
+        ∙ ap₂ _+_ (rolls-length L bs (t .word)) (ih t (hit-suffices L bs plan words start batch (found t) (sym f) (t .word) (t .place) _ refl s))
+    go missing f s ih = absurd (never-missing L bs plan words start batch missing (sym f) refl s)
+
+pub list-length : (L limit : ℕ) (bs words : List ℕ) (start : ℕ) → suffices (run L (cut limit bs) words start) ≡ true
+    → length (rolledBy L (cut limit bs) (run L (cut limit bs) words start)) ≡ length bs
+list-length L limit bs words start e = rolled-total L (cut limit bs) words start 0 e ∙ total-cut limit bs

@@ -1,0 +1,4 @@
+pub mod Cutting
+pub mod Filling
+pub mod Listing
+pub mod OneList

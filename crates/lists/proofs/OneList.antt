@@ -1,0 +1,52 @@
+-- A list of bounds, refusal by refusal. Assumes nothing.
+--
+--   list-count, list-zero, list-room   numbers 2, 4 and 6
+--   list-start, list-short             numbers 9 and 10
+--   list-done                          done, where none of them applies
+use mathlib.Core.Path.{_≡_, _∙_}
+use mathlib.Core.Bool.{true, false}
+use mathlib.Core.List.{List}
+use Prim.Native.Nat.{ℕ, _^_, _<_, _≤_}
+use lib.Dec.{ltb}
+use lib.ListN.{length}
+use Rattle.rules.specs.Rolls.{hasZero}
+use Rattle.rules.specs.Width.{w64}
+use Rattle.rules.specs.Run.{run, trace, rollsOf}
+use Rattle.rules.specs.Cut.{cut}
+use Rattle.answers.specs.Outcome.{refused, done, decide, outside, ofWords, fromRun}
+use Rattle.lists.specs.List.{rollList}
+use Rattle.answers.specs.Supplied.{supplied}
+use Rattle.answers.specs.declared.supply.Supply.the-variants.{Enough, Short}
+use Rattle.answers.proofs.Deciding.{decide-here, decide-past, no-start, words-short, words-drawn}
+
+module _ (words : List ℕ) (start : ℕ) (bs : List ℕ) (room : ℕ) where
+  pub list-count : outside 0 4096 (length bs) ≡ true → rollList w64 words start bs room ≡ refused 2 0
+  unfolding rollList
+  list-count e = decide-here _ _ _ e
+
+  module _ (count : outside 0 4096 (length bs) ≡ false) where
+    pub list-zero : hasZero bs ≡ true → rollList w64 words start bs room ≡ refused 4 0
+    unfolding rollList
+    list-zero e = decide-past _ _ _ count ∙ decide-here _ _ _ e
+
+    module _ (zeros : hasZero bs ≡ false) where
+      pub list-room : ltb room (length bs) ≡ true → rollList w64 words start bs room ≡ refused 6 0
+      unfolding rollList
+      list-room e = decide-past _ _ _ count ∙ decide-past _ _ _ zeros ∙ decide-here _ _ _ e
+
+      module _ (fits : ltb room (length bs) ≡ false) where
+        rest : rollList w64 words start bs room
+            ≡ decide (ofWords 64 (cut (2 ^ 56) bs) words start) (fromRun 64 (cut (2 ^ 56) bs) words start (λ rs. rs))
+        unfolding rollList
+        rest = decide-past _ _ _ count ∙ decide-past _ _ _ zeros ∙ decide-past _ _ _ fits
+
+        pub list-start : length words < start → rollList w64 words start bs room ≡ refused 9 0
+        list-start h = rest ∙ no-start 64 (cut (2 ^ 56) bs) words start _ h
+
+        module _ (h : start ≤ length words) where
+          pub list-short : (k : ℕ) → supplied start (run 64 (cut (2 ^ 56) bs) words start) ≡ Short k → rollList w64 words start bs room ≡ refused 10 k
+          list-short k e = rest ∙ words-short 64 (cut (2 ^ 56) bs) words start _ h k e
+
+          pub list-done : (to more : ℕ) → supplied start (run 64 (cut (2 ^ 56) bs) words start) ≡ Enough to more
+              → rollList w64 words start bs room ≡ done (rollsOf 64 (cut (2 ^ 56) bs) (trace (run 64 (cut (2 ^ 56) bs) words start))) to more
+          list-done to more e = rest ∙ words-drawn 64 (cut (2 ^ 56) bs) words start (λ rs. rs) h to more e

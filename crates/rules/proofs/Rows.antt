@@ -1,0 +1,66 @@
+use mathlib.Core.Path.{_≡_, refl, ap, _∙_}
+use mathlib.Core.List.{List, [], _∷_, _++_}
+use Prim.Native.Nat.{ℕ, zero, suc, _+_, _-_, _^_, _<_, _≤_}
+use native.Mathlib.Nat.{not-suc-le-zero, le-of-suc-le-suc, le-refl, mul-pos, mul-le-mul, pow-zero, pow-succ', sub-zero, zero-add, suc-add}
+use native.Mathlib.Omega.{arith}
+use lib.ListN.{length, getD}
+use Rattle.rules.specs.Rolls.{product}
+use Rattle.rules.specs.Shuffle.{countdown, shuffleBounds}
+use Rattle.rules.specs.Reservoir.{countup}
+
+-- ---- numbers in a row
+
+pub countdown-length : (s m : ℕ) → length (countdown s m) ≡ s
+unfolding countdown
+countdown-length zero m = refl
+countdown-length (suc s) m = ap suc (countdown-length s (m - 1))
+
+pub countdown-cons : (s m : ℕ) → 0 < s → countdown s m ≡ m ∷ countdown (s - 1) (m - 1)
+unfolding countdown
+countdown-cons zero m h = absurd (not-suc-le-zero h)
+countdown-cons (suc s) m h = let e : s ≡ suc s - 1 = omega arith in ap (λ (k : ℕ). m ∷ countdown k (m - 1)) e
+
+pub countdown-at : (s m i : ℕ) → i < s → getD (countdown s m) i 0 ≡ m - i
+unfolding countdown
+countdown-at zero m i h = absurd (not-suc-le-zero h)
+countdown-at (suc s) m zero h = omega arith
+countdown-at (suc s) m (suc i) h = countdown-at s (m - 1) i (le-of-suc-le-suc h) ∙ omega arith
+
+pub countup-length : (s i : ℕ) → length (countup s i) ≡ s
+unfolding countup
+countup-length zero i = refl
+countup-length (suc s) i = ap suc (countup-length s (i + 1))
+
+pub countup-at : (s i k : ℕ) → k < s → getD (countup s i) k 0 ≡ i + k
+unfolding countup
+countup-at zero i k h = absurd (not-suc-le-zero h)
+countup-at (suc s) i zero h = omega arith
+countup-at (suc s) i (suc k) h = countup-at s (i + 1) k (le-of-suc-le-suc h) ∙ omega arith
+
+pub shuffle-bounds-length : (n : ℕ) → length (shuffleBounds n) ≡ n - 1
+shuffle-bounds-length n = countdown-length (n - 1) n
+
+pub no-bounds : (m : ℕ) → m ≤ 1 → shuffleBounds m ≡ []
+unfolding countdown
+no-bounds m h = let e : m - 1 ≡ 0 = omega arith in rw e
+
+pub bounds-cons : (m : ℕ) → 1 < m → shuffleBounds m ≡ m ∷ shuffleBounds (m - 1)
+bounds-cons m h = countdown-cons (m - 1) m (omega arith)
+
+-- ---- the shuffle's plan
+
+pub countdown-add : (s t m : ℕ) → countdown s m ++ countdown t (m - s) ≡ countdown (s + t) m
+unfolding countdown
+countdown-add zero t m = rw (sub-zero, zero-add)
+countdown-add (suc s) t m =
+    let e : m - suc s ≡ m - 1 - s = omega arith in
+    rw (e, suc-add) (ap (λ (l : List ℕ). m ∷ l) (countdown-add s t (m - 1)))
+
+-- ---- the sizes at 64 bits
+
+pub product-countdown : (s m top : ℕ) → s ≤ m → m ≤ top → (0 < product (countdown s m)) × (product (countdown s m) ≤ top ^ s)
+unfolding product countdown
+product-countdown zero m top h k = (omega arith, rw pow-zero (le-refl 1))
+product-countdown (suc s) m top h k =
+    let p = product-countdown s (m - 1) top (omega arith) (omega arith) in
+    (mul-pos (omega arith) (p .0), rw pow-succ' (mul-le-mul k (p .1)))

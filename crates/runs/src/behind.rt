@@ -1,0 +1,108 @@
+// The way back from rolls to words.
+use super::divide::divide_up;
+use answers::answer::Behind;
+use answers::answer::refused_behind;
+use answers::limits::MAX_BATCH;
+use answers::refusal;
+use arithmetic::bounds::Product;
+use arithmetic::bounds::has_zero;
+use arithmetic::bounds::product_of;
+use arithmetic::bounds::threshold_of;
+ghost use mathlib.Core.Path.{_≡_};
+ghost use mathlib.Core.Bool.{true};
+ghost use Prim.Native.Nat.{_≤_, _<_, _^_};
+ghost use Rattle.rules.specs.Rolls.{product, inRange, value};
+ghost use Rattle.rules.specs.Width.{w64};
+ghost use Rattle.answers.specs.Outcome.{shownBehind};
+ghost use Rattle.runs.specs.Behind.{wordsBehind};
+ghost use Rattle.runs.specs.Inner.{runBehind};
+
+// Whether there is a roll for each bound, each below its bound.
+fn in_range(bounds: &[u64], rolls: &[u64]) -> bool
+    ensures { λ r. ⌜ r ≡ inRange (now (bounds .entry)) (now (rolls .entry)) ⌝ }
+{
+    if bounds.len() != rolls.len() {
+        return false;
+    }
+    let mut i: usize = 0;
+    while i < bounds.len() {
+        if rolls[i] >= bounds[i] {
+            return false;
+        }
+        i += 1;
+    }
+    true
+}
+
+// The rolls read as one mixed-radix number, the first roll most significant.
+fn value_of(bounds: &[u64], rolls: &[u64]) -> u64
+    requires { ⌜ (inRange (now bounds) (now rolls) ≡ true) × (product (now bounds) ≤ 2 ^ 64) ⌝ }
+    ensures { λ r. ⌜ r ≡ value (now (bounds .entry)) (now (rolls .entry)) ⌝ }
+{
+    let mut a: u64 = 0;
+    let mut i: usize = 0;
+    while i < bounds.len() {
+        a = a * bounds[i] + rolls[i];
+        i += 1;
+    }
+    a
+}
+
+// The first and the last of the run of words behind a value, for a product b below 2^64: from (2^64 a + t) / b rounded up, as many
+// as 2^64 / b rounded down.
+fn run_below(a: u64, b: u64) -> Behind
+    requires { ⌜ a < b ⌝ }
+    ensures { λ r. ⌜ r ≡ runBehind 64 b a ⌝ }
+{
+    let first = divide_up(a, threshold_of(b), b);
+    Behind {
+        no: 0,
+        next: 0,
+        rejected: 0,
+        first,
+        last: first + std::num::wrapping_sub_u64(0, b) / b,
+    }
+}
+
+// The words behind rolls, the first and the last of their run: these, and no other words, give the rolls for these bounds, accepted.
+//
+// No word is used; next and rejected are 0. Refusals, the lowest that applies: 2 no bound or more than 16, 4 some bound 0, 5 product
+// above 2^64, 7 rolls and bounds differ in count or a roll reaches its bound. A division or two for each bound, and 64 steps of long
+// division, none for a product of 2^64. For bounds 2, 6 and rolls 0, 0: 1 to 1537228672809129301. While the rules stand the same input
+// has the same answer.
+pub fn words_behind(bounds: &[u64], rolls: &[u64]) -> Behind
+    ensures { λ r. ⌜ r ≡ shownBehind (wordsBehind w64 (now (bounds .entry)) (now (rolls .entry))) ⌝ }
+{
+    if bounds.len() < 1 {
+        return refused_behind(refusal::COUNT);
+    }
+    if MAX_BATCH < bounds.len() {
+        return refused_behind(refusal::COUNT);
+    }
+    if has_zero(bounds) {
+        return refused_behind(refusal::ZERO);
+    }
+    match product_of(bounds) {
+        Product::Below(b) => {
+            if !in_range(bounds, rolls) {
+                return refused_behind(refusal::MISFIT);
+            }
+            run_below(value_of(bounds, rolls), b)
+        }
+        Product::Whole => {
+            if !in_range(bounds, rolls) {
+                return refused_behind(refusal::MISFIT);
+            }
+            // with 2^64 words and 2^64 values each value has one word, itself
+            let a = value_of(bounds, rolls);
+            Behind {
+                no: 0,
+                next: 0,
+                rejected: 0,
+                first: a,
+                last: a,
+            }
+        }
+        Product::Above => refused_behind(refusal::PRODUCT),
+    }
+}

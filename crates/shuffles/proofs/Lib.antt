@@ -1,0 +1,4 @@
+pub mod OneShuffle
+pub mod Placing
+pub mod Reach
+pub mod Shuffling

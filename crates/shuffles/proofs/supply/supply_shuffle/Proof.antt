@@ -1,0 +1,117 @@
+-- `draws::supply::supply_shuffle` meets its contract. The loop's invariant: the batches before the records still to place have their
+-- words, and what is left of the plan is that of those records (Supplying). The measure is the records still to place. Assumes nothing.
+use mathlib.Core.Path.{_∙_, sym}
+use Prim.Native.Nat.{_+_, _≤_}
+use native.Mathlib.Omega.{arith}
+use borrow.Author.Needs.{needs}
+use Rattle.rolls.proofs.Supplying.{Supplying, supply-none, supply-hit, supply-short, supply-done}
+use Rattle.rules.proofs.ShufflePlans.{sizes64, plan-end}
+use Rattle.shuffles.proofs.Shuffling.{plan64, batch-less, batch-fits, batch-plan, batch-find}
+use Rattle.shuffles.proofs.supply.supply_shuffle.Statement.{statement}
+use Rattle.shuffles.proofs.supply.supply_shuffle.Tie as tie
+
+abbrev Inv-loop : tie.InvT-loop
+Inv-loop words start n next₀ rejected₀ batch₀ m₀ next rejected batch m =
+    (batch + m ≤ n) × Supplying 64 (plan64 n) words start (plan64 m) next rejected batch
+
+abbrev μ-loop : tie.MeasureT-loop
+μ-loop words start n next₀ rejected₀ batch₀ m₀ next rejected batch m = m
+
+few : (b : tie.At-loop Inv-loop μ-loop) → b .loop .m ≤ 16384
+few b = omega (arith, b .loop .inv .0, b .before .before .pre .1)
+
+loop-holds : tie.Need-loop-holds Inv-loop μ-loop
+loop-holds c = (omega arith, supply-none 64 _ _ _ (c .before .pre .0))
+
+batch-size-requires : tie.Need-batch-size-requires Inv-loop μ-loop
+batch-size-requires c κs = search needs
+
+product-down-requires : tie.Need-product-down-requires Inv-loop μ-loop
+product-down-requires c κs = let b = c .before .before in (
+  omega (arith, batch-less (b .loop .m) (c .batch-size .result) (c .before .loop-test .taken) (few b) (c .batch-size .ensures)),
+  batch-fits (b .loop .m) (c .batch-size .result) (c .before .loop-test .taken) (few b) (c .batch-size .ensures) .1,
+)
+
+threshold-of-requires : tie.Need-threshold-of-requires Inv-loop μ-loop
+threshold-of-requires c κs = let z = c .before in
+    let b = z .before .before in
+    rw (c .product-down .ensures) (batch-fits (b .loop .m) (z .batch-size .result) (z .before .loop-test .taken) (few b) (z .batch-size .ensures) .0)
+
+find-word-requires : tie.Need-find-word-requires Inv-loop μ-loop
+find-word-requires c κs = search needs
+
+enum-known-place : tie.Need-enum-known-place Inv-loop μ-loop
+enum-known-place c = search needs
+
+loop-again : tie.Need-loop-again Inv-loop μ-loop
+loop-again c =
+    let z = c .before .before .before .before .before .before in
+    let b = z .before .before in
+    let h = z .before .loop-test .taken in
+    let l = batch-less (b .loop .m) (z .batch-size .result) h (few b) (z .batch-size .ensures) in (
+      omega (arith, l, b .loop .inv .0),
+      supply-hit 64 _ _ _ _ _ _ _ (b .loop .inv .1) _ _ (batch-plan _ _ h (few b) (z .batch-size .ensures)) _
+          (batch-find _ _ h (few b) (z .batch-size .ensures) _ _ (c .before .before .before .before .before .product-down .ensures)
+          (c .before .before .before .before .threshold-of .ensures) _ _)
+          _ _ _ (sym (c .before .before .before .find-word .ensures) ∙ c .before .place .given .1),
+    )
+
+add-next : tie.Need-add-next Inv-loop μ-loop
+add-next c = let v = loop-again c in omega (arith, v .1 .0)
+
+add-rejected : tie.Need-add-rejected Inv-loop μ-loop
+add-rejected c = let v = loop-again c in omega (arith, v .1 .0, v .1 .1)
+
+add-batch : tie.Need-add-batch Inv-loop μ-loop
+add-batch c = search needs
+
+sub-m : tie.Need-sub-m Inv-loop μ-loop
+sub-m c = let z = c .before .before .before .before .before .before in
+    let b = z .before .before in
+    omega (arith, batch-less (b .loop .m) (z .batch-size .result) (z .before .loop-test .taken) (few b) (z .batch-size .ensures))
+
+loop-less : tie.Need-loop-less Inv-loop μ-loop
+loop-less c = let z = c .before .before .before .before .before .before in
+    let b = z .before .before in
+    omega (arith, batch-less (b .loop .m) (z .batch-size .result) (z .before .loop-test .taken) (few b) (z .batch-size .ensures))
+
+enum-told : tie.Need-enum-told Inv-loop μ-loop
+enum-told c = search needs
+
+returns : tie.Need-returns Inv-loop μ-loop
+returns c =
+    let z = c .before .before .before .before .before in
+    let b = z .before .before in
+    let h = z .before .loop-test .taken in
+    supply-short 64 _ _ _ _ _ _ _ (b .loop .inv .1) _ _ (batch-plan _ _ h (few b) (z .batch-size .ensures)) _
+    (batch-find _ _ h (few b) (z .batch-size .ensures) _ _ (c .before .before .before .before .product-down .ensures)
+    (c .before .before .before .threshold-of .ensures) _ _)
+    (sym (c .before .before .find-word .ensures) ∙ c .enum-told .given .1)
+
+returns-2 : tie.Need-returns-2 Inv-loop μ-loop
+returns-2 c =
+    let b = c .before in
+    let h : b .loop .m ≤ 1 = search needs in
+    supply-done 64 _ _ _ _ _ _ _ (b .loop .inv .1) (plan-end sizes64 _ h)
+
+pub supply-shuffle-spec : {M : Type 1} → statement M
+supply-shuffle-spec =
+    tie.close
+    (tie.spec
+    Inv-loop
+    μ-loop
+    loop-holds
+    batch-size-requires
+    product-down-requires
+    threshold-of-requires
+    find-word-requires
+    enum-known-place
+    add-next
+    add-rejected
+    add-batch
+    sub-m
+    loop-less
+    loop-again
+    enum-told
+    returns
+    returns-2)
