@@ -2,10 +2,12 @@
 //!
 //! An operation is its refusals in order, its plan, the run of the plan over the words, and a reading of the rolls.
 //! The oracle calls nothing of the proved library; the two have only the shape of their answers in common.
+//! [`second`] does each operation again by another way, against which this one is held.
 
 pub mod plan;
 pub mod reading;
 pub mod run;
+pub mod second;
 pub mod sheet;
 pub mod word;
 

@@ -1,7 +1,7 @@
 //! The rules of document 01, held against the proved library: a file for each operation, and one each for the program,
 //! the checked examples, the Rust and C faces, the paper's own shuffle, and the way from an order to words and back;
 //! `sheets` and `support` have what they share. A test is named by the rule that it holds. Whole answers and whole lent
-//! lists are compared.
+//! lists are compared. `two_ways` holds the oracle against itself, each operation done in two ways.
 //!
 //! `HILDRASP_CASES=20 cargo test --release` runs twenty times the random cases of a default run. Under an emulator a
 //! default run has one in ten of the random cases and of the longest exhaustive ones; `HILDRASP_CASES=1` asks for all.
@@ -20,3 +20,4 @@ mod sheets;
 mod shuffle;
 mod support;
 mod there_and_back;
+mod two_ways;
