@@ -1,6 +1,7 @@
 // What the caller of an operation gets, by value. `no` is 0 where nothing is refused, else the number of the refusal.
 ghost use mathlib.Core.Path.{_≡_};
 ghost use Rattle.answers.specs.Outcome.{refused, shown, shownBatch, shownBehind};
+ghost use Rattle.answers.specs.Supplied.{answered};
 
 // A list of bounds, a shuffle, a sample, the rolls behind an order: the place after the last word used, the count of rejected
 // words, and at number 10 the batch that got no word.
@@ -44,7 +45,19 @@ pub fn refused_answer(number: u64, start: usize, batch: usize) -> Answer
     }
 }
 
-// The same, of one batch.
+// A success: the place after the last word used and the count of rejected words; 0 for both where no word is used.
+pub fn done_answer(next: usize, rejected: usize) -> Answer
+    ensures { λ r. ⌜ r ≡ answered next rejected ⌝ }
+{
+    Answer {
+        no: 0,
+        next,
+        rejected,
+        batch: 0,
+    }
+}
+
+// A refusal of one batch.
 pub fn refused_batch(number: u64, start: usize) -> Batch
     ensures { λ r. ⌜ r ≡ shownBatch start (refused number 0) ⌝ }
 {
@@ -57,7 +70,7 @@ pub fn refused_batch(number: u64, start: usize) -> Batch
     }
 }
 
-// The same, of the words behind rolls, which takes no start.
+// A refusal of the words behind rolls, which takes no start.
 pub fn refused_behind(number: u64) -> Behind
     ensures { λ r. ⌜ r ≡ shownBehind (refused number 0) ⌝ }
 {

@@ -1,26 +1,22 @@
--- Products held against a limit, and bounds that are 0. Assumes nothing.
+-- Products held against a limit, and products that wrap. Assumes nothing.
 --
---   clash                                         a case that does not arise
 --   leb-div                                       p is at most limit / b exactly where p * b is at most the limit
 --   against-below, against-whole, against-above   what is held of a number, by where it lies
 --   held-below, held-whole, held-above            where a number lies, by what is held of it
 --   is-below, is-whole, is-above                  where p * b lies, by the two tests that the code makes
 --   some                                          p is 1 or more where p * b passes 2^64 - 1
 --   grown-against                                 what is held of a product, with one bound more
---   product-snoc, product-more                    a product with one bound more
---   or-left, or-right                             each of two tests fails where neither passes
---   zero-nowhere                                  where no bound is 0, each is 1 or more
---   zero-here, zero-later, zero-none              whether some bound from a place on is 0
---   product-some, product-pos                     the product of bounds that are all 1 or more is 1 or more
+--   unwrap-whole, unwrap-some, unwrap-wrapped     the product that a word stands for, where products up to 2^L wrap
 use mathlib.Core.Path.{_≡_, refl, sym, ap, _∙_}
 use mathlib.Core.Bool.{Bool, true, false}
-use Prim.Native.Nat.{ℕ, zero, suc, _+_, _-_, _*_, _/_, _^_, _<_, _≤_}
-use native.Mathlib.Nat.{le-div-iff-mul-le, lt-of-not-le, le-mul-of-pos-right}
+use Prim.Native.Nat.{ℕ, zero, suc, _+_, _-_, _*_, _/_, _%_, _^_, _<_, _≤_}
+use native.Mathlib.Nat.{le-div-iff-mul-le, lt-of-not-le, le-mul-of-pos-right, mod-eq-of-lt, mod-self}
+use native.Mathlib.Decide.{decLt}
 use native.Mathlib.Omega.{arith}
 use lib.Dec.{leb, ltb, eqb}
 use lib.Arith.{lt-of-le-ne}
 use borrow.Author.Tests.{leb-true, leb-false, le-leb, lt-leb, lt-ltb, le-ltb, eq-eqb, ne-eqb, eqb-true, eqb-false, ltb-true, ltb-false}
-use Rattle.arithmetic.specs.Products.{against, grown}
+use Rattle.arithmetic.specs.Products.{against, grown, unwrap}
 use Rattle.arithmetic.specs.declared.bounds.Product.{Product}
 use Rattle.arithmetic.specs.declared.bounds.Product.the-variants.{Below, Whole, Above}
 use Rattle.rules.proofs.Facts.{clash}
@@ -121,3 +117,22 @@ grown-against n b h = go (ltb n (2 ^ 64)) refl (eqb n (2 ^ 64)) refl
     go false e false f =
         let l : 2 ^ 64 < n = lt-of-le-ne (ltb-false n (2 ^ 64) e) (λ w. eqb-false n (2 ^ 64) f (sym w)) in
         ap (λ (x : Product). grown x b) (against-above n l) ∙ sym (against-above (n * b) (omega (arith, le-mul-of-pos-right n h)))
+
+-- ---- products that wrap
+
+pub unwrap-whole : (L b : ℕ) → b ≡ 0 → unwrap L b ≡ 2 ^ L
+unwrap-whole L b e = rw (eq-eqb b 0 e, unwrap)
+
+pub unwrap-some : (L b : ℕ) → (b ≡ 0 → ⊥) → unwrap L b ≡ b
+unwrap-some L b n = rw (ne-eqb b 0 n, unwrap)
+
+-- a product from 1 to 2^L is known by what is left of it when it wraps
+pub unwrap-wrapped : (L p : ℕ) → 0 < p → p ≤ 2 ^ L → unwrap L (p % 2 ^ L) ≡ p
+unwrap-wrapped L p h l = go (decLt p (2 ^ L))
+  where
+    go : Dec (p < 2 ^ L) → unwrap L (p % 2 ^ L) ≡ p
+    go (yes k) = let e : p % 2 ^ L ≡ p = mod-eq-of-lt k in rw e (unwrap-some L p (λ z. omega arith))
+    go (no k) =
+        let w : p ≡ 2 ^ L = omega arith in
+        let e : p % 2 ^ L ≡ 0 = ap (λ (n : ℕ). n % 2 ^ L) w ∙ mod-self (2 ^ L) in
+        unwrap-whole L (p % 2 ^ L) e ∙ sym w

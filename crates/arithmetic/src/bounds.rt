@@ -4,7 +4,7 @@ ghost use mathlib.Core.Bool.{false};
 ghost use Prim.Native.Nat.{_*_, _<_};
 ghost use lib.Dec.{leb};
 ghost use Rattle.rules.specs.Rolls.{product, threshold, hasZero};
-ghost use Rattle.arithmetic.specs.Products.{against, grown};
+ghost use Rattle.arithmetic.specs.Products.{against, grown, unwrap};
 
 // A product held against 2^64, which no 64-bit number holds.
 pub enum Product {
@@ -80,10 +80,13 @@ pub fn product_of(bounds: &[u64]) -> Product
     held
 }
 
-// t, the remainder of 2^64 by b: zero less b, taken with wrap at 64 bits, mod b.
+// t, the remainder of 2^64 by the product that b stands for: zero less b, taken with wrap at 64 bits, mod b. For 2^64, which no word
+// holds and 0 stands for, it is 0, and nothing is divided.
 pub fn threshold_of(b: u64) -> u64
-    requires { ⌜ 0 < b ⌝ }
-    ensures { λ r. ⌜ r ≡ threshold 64 b ⌝ }
+    ensures { λ r. ⌜ r ≡ threshold 64 (unwrap 64 b) ⌝ }
 {
+    if b == 0 {
+        return 0;
+    }
     std::num::wrapping_sub_u64(0, b) % b
 }

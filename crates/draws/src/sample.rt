@@ -1,5 +1,6 @@
 // The sample: a reservoir with batched rolls. First it is known that the words suffice for every batch, then slots are written.
 use answers::answer::Answer;
+use answers::answer::done_answer;
 use answers::answer::refused_answer;
 use answers::limits::MAX_RECORDS;
 use answers::refusal;
@@ -14,9 +15,8 @@ ghost use lib.ListN.{length, take, drop};
 ghost use Rattle.rules.specs.Width.{w64};
 ghost use Rattle.rules.specs.Run.{run, trace, rollsOf, suffices};
 ghost use Rattle.rules.specs.Cut.{cut};
-ghost use Rattle.answers.specs.Outcome.{shown, left};
 ghost use Rattle.rules.specs.Reservoir.{countup, reservoir};
-ghost use Rattle.draws.specs.Sample.{sample};
+ghost use Rattle.draws.specs.Sample.{seenSample};
 
 // Fills the list with from, from + 1, and so on.
 fn count_up(bounds: &mut [u64], from: u64)
@@ -88,18 +88,13 @@ fn draw_sample(
 ) -> Answer
     requires { ⌜ (start ≤ length (now words)) × (length (now records) ≤ 16384) × (0 < k) × (k ≤ length (now records)) × (k ≤ length (now slots)) ⌝ }
     requires { ⌜ now bounds ≡ countup (length (now records) - k) (k + 1) ⌝ }
-    ensures answer { λ r. ⌜ r ≡ shown start (sample w64 (now (words .entry)) start (now (records .entry)) k (length (now (slots .entry)))) ⌝ }
-    ensures slots { λ r. ⌜ now (slots .exit) ≡ left (now (slots .entry)) (sample w64 (now (words .entry)) start (now (records .entry)) k (length (now (slots .entry)))) ⌝ }
+    ensures answer { λ r. ⌜ r ≡ seenSample w64 (now (words .entry)) start (now (records .entry)) k (now (slots .entry)) .0 ⌝ }
+    ensures slots { λ r. ⌜ now (slots .exit) ≡ seenSample w64 (now (words .entry)) start (now (records .entry)) k (now (slots .entry)) .1 ⌝ }
 {
     match supply_list(words, start, bounds) {
         Supply::Enough { next, rejected } => {
             fill_slots(words, start, records, k, bounds, slots);
-            Answer {
-                no: 0,
-                next,
-                rejected,
-                batch: 0,
-            }
+            done_answer(next, rejected)
         }
         Supply::Short { batch } => refused_answer(refusal::WORDS, start, batch),
     }
@@ -120,8 +115,8 @@ pub fn sample_records(
     k: usize,
     slots: &mut [u32],
 ) -> Answer
-    ensures answer { λ r. ⌜ r ≡ shown start (sample w64 (now (words .entry)) start (now (records .entry)) k (length (now (slots .entry)))) ⌝ }
-    ensures slots { λ r. ⌜ now (slots .exit) ≡ left (now (slots .entry)) (sample w64 (now (words .entry)) start (now (records .entry)) k (length (now (slots .entry)))) ⌝ }
+    ensures answer { λ r. ⌜ r ≡ seenSample w64 (now (words .entry)) start (now (records .entry)) k (now (slots .entry)) .0 ⌝ }
+    ensures slots { λ r. ⌜ now (slots .exit) ≡ seenSample w64 (now (words .entry)) start (now (records .entry)) k (now (slots .entry)) .1 ⌝ }
 {
     let n = records.len();
     if MAX_RECORDS < n {

@@ -18,6 +18,7 @@ use borrow.Author.Tests.{lt-ltb, le-ltb, ltb-true}
 use Rattle.rules.specs.Rolls.{product}
 use Rattle.rules.proofs.Facts.{clash}
 use Rattle.rules.proofs.Products.{product-snoc}
+use Rattle.rules.specs.Width.{Width}
 use Rattle.rules.specs.Cut.{joins, cutFrom, cut}
 use Rattle.lists.specs.Inner.{cutAt, begins}
 use Rattle.rules.proofs.Writing.{drop-next}
@@ -153,6 +154,6 @@ module _ (limit : ℕ) (bs : List ℕ) (at p end : ℕ) (v : Cutting limit bs at
       → (end ≡ at + length (begins (cut limit (drop at bs)))) × (p ≡ product (begins (cut limit (drop at bs))))
   cut-end e = (omega (arith, sym len ∙ ap length e), v .3 ∙ ap product e)
 
-pub cut-found : (bs : List ℕ) (at p end : ℕ) → Cutting (2 ^ 56) bs at p end → part bs at end ≡ begins (cut (2 ^ 56) (drop at bs))
-    → record { end = end; product = p } ≡ cutAt bs at
-cut-found bs at p end v e = let f = cut-end (2 ^ 56) bs at p end v e in λ i. record { end = f .0 i; product = f .1 i }
+pub cut-found : (W : Width) (bs : List ℕ) (at p end : ℕ) → Cutting (W .limit) bs at p end → part bs at end ≡ begins (cut (W .limit) (drop at bs))
+    → record { end = end; product = p } ≡ cutAt W bs at
+cut-found W bs at p end v e = let f = cut-end (W .limit) bs at p end v e in λ i. record { end = f .0 i; product = f .1 i }

@@ -12,7 +12,9 @@ use Prim.Native.Nat.{ℕ, _+_, _-_, _^_, _<_, _≤_}
 use native.Mathlib.Omega.{arith}
 use lib.ListN.{length, take, drop, length-append, drop-of-length-le, take-append-drop}
 use borrow.Rule.Slice.PartMut.{putMid}
-use Rattle.rules.specs.Rolls.{rolls, threshold, accepted, hasZero}
+use Rattle.rules.specs.Width.{Width}
+use Rattle.rules.specs.Rolls.{rolls, accepted, hasZero}
+use Rattle.arithmetic.specs.Products.{unwrap}
 use Rattle.rules.proofs.Rolls.{rolls-length}
 use Rattle.rules.specs.Run.{Taken, Found, found, missing, find, Run, runFrom, run, rollsOf, suffices}
 use Rattle.rules.specs.Cut.{joins, cutFrom, cut}
@@ -29,67 +31,67 @@ use Rattle.rules.proofs.Writing.{wrote-front, wrote-back, wrote-length, lent, d
 -- ---- the loop
 
 -- what is left of the run, from the place to on, numbered from batch
-abbrev runLeft : List ℕ → List ℕ → ℕ → ℕ → ℕ → Run
-runLeft words bs at to batch = runFrom 64 (cut (2 ^ 56) (drop at bs)) words to batch
+abbrev runLeft : Width → List ℕ → List ℕ → ℕ → ℕ → ℕ → Run
+runLeft W words bs at to batch = runFrom (W .bits) (cut (W .limit) (drop at bs)) words to batch
 
-abbrev whole : List ℕ → List ℕ → ℕ → List ℕ
-whole words bs start = rolledBy 64 (cut (2 ^ 56) bs) (run 64 (cut (2 ^ 56) bs) words start)
+abbrev whole : Width → List ℕ → List ℕ → ℕ → List ℕ
+whole W words bs start = rolledBy (W .bits) (cut (W .limit) bs) (run (W .bits) (cut (W .limit) bs) words start)
 
 -- the rolls of the bounds before `at` are written, and the rest of the run suffices
-abbrev pub Filling : List ℕ → ℕ → List ℕ → List ℕ → List ℕ → ℕ → ℕ → Type 0
-Filling words start bs out₀ out to at =
+abbrev pub Filling : Width → List ℕ → ℕ → List ℕ → List ℕ → List ℕ → ℕ → ℕ → Type 0
+Filling W words start bs out₀ out to at =
     (to ≤ length words) × (at ≤ length bs) × (length out ≡ length out₀) × (drop at out ≡ drop at out₀)
-    × ((batch : ℕ) × (suffices (runLeft words bs at to batch) ≡ true)
-    × (take at out ++ rolledBy 64 (cut (2 ^ 56) (drop at bs)) (runLeft words bs at to batch) ≡ whole words bs start))
+    × ((batch : ℕ) × (suffices (runLeft W words bs at to batch) ≡ true)
+    × (take at out ++ rolledBy (W .bits) (cut (W .limit) (drop at bs)) (runLeft W words bs at to batch) ≡ whole W words bs start))
 
-pub fill-none : (words : List ℕ) (start : ℕ) (bs out : List ℕ) → start ≤ length words → suffices (run 64 (cut (2 ^ 56) bs) words start) ≡ true
-    → Filling words start bs out out start 0
-fill-none words start bs out h e = (h, omega arith, refl, refl, (0, e, refl))
+pub fill-none : (W : Width) (words : List ℕ) (start : ℕ) (bs out : List ℕ) → start ≤ length words → suffices (run (W .bits) (cut (W .limit) bs) words start) ≡ true
+    → Filling W words start bs out out start 0
+fill-none W words start bs out h e = (h, omega arith, refl, refl, (0, e, refl))
 
-module _ (words : List ℕ) (start : ℕ) (bs out₀ out : List ℕ) (to at : ℕ) (v : Filling words start bs out₀ out to at) where
-  module _ (h : at < length bs) (z : hasZero bs ≡ false) (c : Cut) (e : c ≡ cutAt bs at) (f : c .product < 2 ^ 64) (t : ℕ) (g : t ≡ threshold 64 (c .product)) where
-    same : find (passes (c .product) t) (drop to words) to ≡ find (accepted 64 (batchAt bs at)) (drop to words) to
-    same = cut-find bs at h z c e t f g (drop to words) to
+module _ (W : Width) (words : List ℕ) (start : ℕ) (bs out₀ out : List ℕ) (to at : ℕ) (v : Filling W words start bs out₀ out to at) where
+  module _ (h : at < length bs) (z : hasZero bs ≡ false) (c : Cut) (e : c ≡ cutAt W bs at) where
+    same : find (passes (W .bits) (unwrap (W .bits) (c .product))) (drop to words) to ≡ find (accepted (W .bits) (batchAt W bs at)) (drop to words) to
+    same = cut-find W bs at h z c e (drop to words) to
 
-    pub fill-never : searched to (find (passes (c .product) t) (drop to words) to) ≡ Missing → ⊥
-    fill-never s = never-missing 64 (batchAt bs at) _ words to (v .4 .0) _ same s (rw (batch-rest bs at h) at (v .4 .1))
+    pub fill-never : searched to (find (passes (W .bits) (unwrap (W .bits) (c .product))) (drop to words) to) ≡ Missing → ⊥
+    fill-never s = never-missing (W .bits) (batchAt W bs at) _ words to (v .4 .0) _ same s (rw (batch-rest W bs at h) at (v .4 .1))
 
-    pub fill-turn : (w place m : ℕ) → searched to (find (passes (c .product) t) (drop to words) to) ≡ Hit w place m → length bs ≤ length out₀
-        → (last : List ℕ) → last ≡ rolls 64 (part bs at (c .end)) w ++ drop (length (part bs at (c .end))) (take (length out - at) (drop at out))
-        → Filling words start bs out₀ (putMid at (length out - at) out last) (place + 1) (c .end)
+    pub fill-turn : (w place m : ℕ) → searched to (find (passes (W .bits) (unwrap (W .bits) (c .product))) (drop to words) to) ≡ Hit w place m → length bs ≤ length out₀
+        → (last : List ℕ) → last ≡ rolls (W .bits) (part bs at (c .end)) w ++ drop (length (part bs at (c .end))) (take (length out - at) (drop at out))
+        → Filling W words start bs out₀ (putMid at (length out - at) out last) (place + 1) (c .end)
     fill-turn w place m s room last l =
-        let batch : List ℕ = batchAt bs at in
-        let d : List ℕ = rolls 64 batch w in
-        let n : length d ≡ length batch = rolls-length 64 batch w in
-        let end : c .end ≡ at + length d = cut-end bs at h z c e ∙ ap (λ (k : ℕ). at + k) (sym n) in
-        let p : part bs at (c .end) ≡ batch = rw (cut-end bs at h z c e) (sym (batch-part bs at h)) in
-        let fits : at + length d ≤ length out = omega (arith, n, batch-within bs at h, room, v .2) in
+        let batch : List ℕ = batchAt W bs at in
+        let d : List ℕ = rolls (W .bits) batch w in
+        let n : length d ≡ length batch = rolls-length (W .bits) batch w in
+        let end : c .end ≡ at + length d = cut-end W bs at h z c e ∙ ap (λ (k : ℕ). at + k) (sym n) in
+        let p : part bs at (c .end) ≡ batch = rw (cut-end W bs at h z c e) (sym (batch-part W bs at h)) in
+        let fits : at + length d ≤ length out = omega (arith, n, batch-within W bs at h, room, v .2) in
         let wrote-d = lent out d at fits last (rw (p, ← n) at l) in
-        let plan : List (List ℕ) = cut (2 ^ 56) (drop (at + length d) bs) in
-        let rest : cut (2 ^ 56) (drop at bs) ≡ batch ∷ plan = rw n (batch-rest bs at h) in
-        let k : suffices (runFrom 64 (batch ∷ plan) words to (v .4 .0)) ≡ true = rw rest at (v .4 .1) in
+        let plan : List (List ℕ) = cut (W .limit) (drop (at + length d) bs) in
+        let rest : cut (W .limit) (drop at bs) ≡ batch ∷ plan = rw n (batch-rest W bs at h) in
+        let k : suffices (runFrom (W .bits) (batch ∷ plan) words to (v .4 .0)) ≡ true = rw rest at (v .4 .1) in
         rw (wrote-d, end) (
-          omega (arith, hit-within 64 batch plan words to (v .4 .0) _ same w place m s),
-          omega (arith, n, batch-within bs at h),
+          omega (arith, hit-within (W .bits) batch plan words to (v .4 .0) _ same w place m s),
+          omega (arith, n, batch-within W bs at h),
           wrote-length out d at fits ∙ v .2,
           wrote-back out d at fits ∙ drop-more out out₀ at (length d) (v .3),
           (
             v .4 .0 + 1,
-            hit-suffices 64 batch plan words to (v .4 .0) _ same w place m s k,
-            ap (λ (x : List ℕ). x ++ rolledBy 64 plan (runFrom 64 plan words (place + 1) (v .4 .0 + 1))) (wrote-front out d at fits)
+            hit-suffices (W .bits) batch plan words to (v .4 .0) _ same w place m s k,
+            ap (λ (x : List ℕ). x ++ rolledBy (W .bits) plan (runFrom (W .bits) plan words (place + 1) (v .4 .0 + 1))) (wrote-front out d at fits)
                 ∙ append-assoc (take at out) d _
-                ∙ ap (λ (x : List ℕ). take at out ++ x) (sym (hit-rolled 64 batch plan words to (v .4 .0) _ same w place m s k))
+                ∙ ap (λ (x : List ℕ). take at out ++ x) (sym (hit-rolled (W .bits) batch plan words to (v .4 .0) _ same w place m s k))
                 ∙ (rw rest at (v .4 .2)),
           ),
         )
 
-  pub fill-done : length bs ≤ at → out ≡ whole words bs start ++ drop (length bs) out₀
+  pub fill-done : length bs ≤ at → out ≡ whole W words bs start ++ drop (length bs) out₀
   unfolding cut runFrom rollsOf
   fill-done h =
       let e : at ≡ length bs = omega arith in
-      let front : take at out ≡ whole words bs start
+      let front : take at out ≡ whole W words bs start
       = sym (append-nil (take at out))
-      ∙ ap (λ (l : List ℕ). take at out ++ rolledBy 64 (cut (2 ^ 56) l) (runFrom 64 (cut (2 ^ 56) l) words to (v .4 .0))) (sym (drop-of-length-le bs h))
+      ∙ ap (λ (l : List ℕ). take at out ++ rolledBy (W .bits) (cut (W .limit) l) (runFrom (W .bits) (cut (W .limit) l) words to (v .4 .0))) (sym (drop-of-length-le bs h))
       ∙ v .4 .2 in
       sym (take-append-drop at out) ∙ rw (front, v .3, e)
 

@@ -6,47 +6,48 @@
 use mathlib.Core.Path.{_≡_, _∙_}
 use mathlib.Core.Bool.{true, false}
 use mathlib.Core.List.{List}
-use Prim.Native.Nat.{ℕ, _^_, _<_, _≤_}
+use Prim.Native.Nat.{ℕ, _<_, _≤_}
 use lib.Dec.{ltb}
 use lib.ListN.{length}
 use Rattle.rules.specs.Rolls.{hasZero}
-use Rattle.rules.specs.Width.{w64}
-use Rattle.rules.specs.Run.{run, trace, rollsOf}
+use Rattle.rules.specs.Width.{Width}
+use Rattle.rules.specs.Limits.{maxBounds}
+use Rattle.rules.specs.Run.{run}
 use Rattle.rules.specs.Cut.{cut}
-use Rattle.answers.specs.Outcome.{refused, done, decide, outside, ofWords, fromRun}
+use Rattle.answers.specs.Outcome.{refused, decide, outside, ofWords, fromRun}
 use Rattle.lists.specs.List.{rollList}
 use Rattle.answers.specs.Supplied.{supplied}
 use Rattle.answers.specs.declared.supply.Supply.the-variants.{Enough, Short}
 use Rattle.answers.proofs.Deciding.{decide-here, decide-past, no-start, words-short, words-drawn}
 
-module _ (words : List ℕ) (start : ℕ) (bs : List ℕ) (room : ℕ) where
-  pub list-count : outside 0 4096 (length bs) ≡ true → rollList w64 words start bs room ≡ refused 2 0
+module _ (W : Width) (words : List ℕ) (start : ℕ) (bs : List ℕ) (room : ℕ) where
+  pub list-count : outside 0 maxBounds (length bs) ≡ true → rollList W words start bs room ≡ refused 2 0
   unfolding rollList
   list-count e = decide-here _ _ _ e
 
-  module _ (count : outside 0 4096 (length bs) ≡ false) where
-    pub list-zero : hasZero bs ≡ true → rollList w64 words start bs room ≡ refused 4 0
+  module _ (count : outside 0 maxBounds (length bs) ≡ false) where
+    pub list-zero : hasZero bs ≡ true → rollList W words start bs room ≡ refused 4 0
     unfolding rollList
     list-zero e = decide-past _ _ _ count ∙ decide-here _ _ _ e
 
     module _ (zeros : hasZero bs ≡ false) where
-      pub list-room : ltb room (length bs) ≡ true → rollList w64 words start bs room ≡ refused 6 0
+      pub list-room : ltb room (length bs) ≡ true → rollList W words start bs room ≡ refused 6 0
       unfolding rollList
       list-room e = decide-past _ _ _ count ∙ decide-past _ _ _ zeros ∙ decide-here _ _ _ e
 
       module _ (fits : ltb room (length bs) ≡ false) where
-        rest : rollList w64 words start bs room
-            ≡ decide (ofWords 64 (cut (2 ^ 56) bs) words start) (fromRun 64 (cut (2 ^ 56) bs) words start (λ rs. rs))
+        rest : rollList W words start bs room
+            ≡ decide (ofWords (W .bits) (cut (W .limit) bs) words start) (fromRun (W .bits) (cut (W .limit) bs) words start (λ rs. rs))
         unfolding rollList
         rest = decide-past _ _ _ count ∙ decide-past _ _ _ zeros ∙ decide-past _ _ _ fits
 
-        pub list-start : length words < start → rollList w64 words start bs room ≡ refused 9 0
-        list-start h = rest ∙ no-start 64 (cut (2 ^ 56) bs) words start _ h
+        pub list-start : length words < start → rollList W words start bs room ≡ refused 9 0
+        list-start h = rest ∙ no-start (W .bits) (cut (W .limit) bs) words start _ h
 
         module _ (h : start ≤ length words) where
-          pub list-short : (k : ℕ) → supplied start (run 64 (cut (2 ^ 56) bs) words start) ≡ Short k → rollList w64 words start bs room ≡ refused 10 k
-          list-short k e = rest ∙ words-short 64 (cut (2 ^ 56) bs) words start _ h k e
+          pub list-short : (k : ℕ) → supplied start (run (W .bits) (cut (W .limit) bs) words start) ≡ Short k → rollList W words start bs room ≡ refused 10 k
+          list-short k e = rest ∙ words-short (W .bits) (cut (W .limit) bs) words start _ h k e
 
-          pub list-done : (to more : ℕ) → supplied start (run 64 (cut (2 ^ 56) bs) words start) ≡ Enough to more
-              → rollList w64 words start bs room ≡ done (rollsOf 64 (cut (2 ^ 56) bs) (trace (run 64 (cut (2 ^ 56) bs) words start))) to more
-          list-done to more e = rest ∙ words-drawn 64 (cut (2 ^ 56) bs) words start (λ rs. rs) h to more e
+          pub list-done : (to more : ℕ) → supplied start (run (W .bits) (cut (W .limit) bs) words start) ≡ Enough to more
+              → rollList W words start bs room ≡ fromRun (W .bits) (cut (W .limit) bs) words start (λ rs. rs)
+          list-done to more e = rest ∙ words-drawn (W .bits) (cut (W .limit) bs) words start _ h to more e

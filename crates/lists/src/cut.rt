@@ -6,6 +6,7 @@ ghost use mathlib.Core.Bool.{false};
 ghost use Prim.Native.Nat.{_<_};
 ghost use lib.ListN.{length};
 ghost use Rattle.rules.specs.Rolls.{hasZero};
+ghost use Rattle.rules.specs.Width.{w64};
 ghost use Rattle.lists.specs.Inner.{cutAt};
 
 // 2^56: a further bound joins a batch while their product is at most this.
@@ -21,7 +22,7 @@ pub struct Cut {
 // batch has fewer than 16 and its product with the new bound is at most 2^56.
 pub fn cut_at(bounds: &[u64], at: usize) -> Cut
     requires { ⌜ (at < length (now bounds)) × (hasZero (now bounds) ≡ false) ⌝ }
-    ensures { λ r. ⌜ r ≡ cutAt (now (bounds .entry)) at ⌝ }
+    ensures { λ r. ⌜ r ≡ cutAt w64 (now (bounds .entry)) at ⌝ }
 {
     let mut product = bounds[at];
     let mut end = at + 1;

@@ -2,11 +2,11 @@
 use super::cut::cut_at;
 use super::supply::supply_list;
 use answers::answer::Answer;
+use answers::answer::done_answer;
 use answers::answer::refused_answer;
 use answers::refusal;
 use answers::supply::Supply;
 use arithmetic::bounds::has_zero;
-use arithmetic::bounds::threshold_of;
 use rolls::search::Search;
 use rolls::search::find_word;
 use rolls::unfold::write_rolls;
@@ -19,8 +19,7 @@ ghost use Rattle.rules.specs.Rolls.{hasZero};
 ghost use Rattle.rules.specs.Width.{w64};
 ghost use Rattle.rules.specs.Run.{run, trace, rollsOf, suffices};
 ghost use Rattle.rules.specs.Cut.{cut};
-ghost use Rattle.answers.specs.Outcome.{shown, left};
-ghost use Rattle.lists.specs.List.{rollList};
+ghost use Rattle.lists.specs.List.{seenList};
 
 // The most bounds of a list.
 const MAX_BOUNDS: usize = 4096;
@@ -35,7 +34,7 @@ pub fn write_list(words: &[u64], start: usize, bounds: &[u64], rolls: &mut [u64]
     while at < bounds.len() {
         let part = cut_at(bounds, at);
         let end = part.end;
-        match find_word(words, next, part.product, threshold_of(part.product)) {
+        match find_word(words, next, part.product) {
             Search::Hit {
                 word,
                 place,
@@ -62,8 +61,8 @@ pub fn write_list(words: &[u64], start: usize, bounds: &[u64], rolls: &mut [u64]
 // each roll. With bounds 2, 6 and words 0, 1 the rolls are 0, 0, next is 2 and one word is rejected. While the rules stand the same
 // input has the same answer.
 pub fn roll_list(words: &[u64], start: usize, bounds: &[u64], rolls: &mut [u64]) -> Answer
-    ensures answer { λ r. ⌜ r ≡ shown start (rollList w64 (now (words .entry)) start (now (bounds .entry)) (length (now (rolls .entry)))) ⌝ }
-    ensures rolls { λ r. ⌜ now (rolls .exit) ≡ left (now (rolls .entry)) (rollList w64 (now (words .entry)) start (now (bounds .entry)) (length (now (rolls .entry)))) ⌝ }
+    ensures answer { λ r. ⌜ r ≡ seenList w64 (now (words .entry)) start (now (bounds .entry)) (now (rolls .entry)) .0 ⌝ }
+    ensures rolls { λ r. ⌜ now (rolls .exit) ≡ seenList w64 (now (words .entry)) start (now (bounds .entry)) (now (rolls .entry)) .1 ⌝ }
 {
     if MAX_BOUNDS < bounds.len() {
         return refused_answer(refusal::COUNT, start, 0);
@@ -80,12 +79,7 @@ pub fn roll_list(words: &[u64], start: usize, bounds: &[u64], rolls: &mut [u64])
     match supply_list(words, start, bounds) {
         Supply::Enough { next, rejected } => {
             write_list(words, start, bounds, rolls);
-            Answer {
-                no: 0,
-                next,
-                rejected,
-                batch: 0,
-            }
+            done_answer(next, rejected)
         }
         Supply::Short { batch } => refused_answer(refusal::WORDS, start, batch),
     }

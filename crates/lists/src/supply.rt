@@ -1,7 +1,6 @@
 // Whether the words suffice for a list of bounds. It is known before anything is written: a refusal leaves every lent list as it was.
 use super::cut::cut_at;
 use answers::supply::Supply;
-use arithmetic::bounds::threshold_of;
 use rolls::search::Search;
 use rolls::search::find_word;
 ghost use mathlib.Core.Path.{_≡_};
@@ -24,7 +23,7 @@ pub fn supply_list(words: &[u64], start: usize, bounds: &[u64]) -> Supply
     let mut at: usize = 0;
     while at < bounds.len() {
         let part = cut_at(bounds, at);
-        match find_word(words, next, part.product, threshold_of(part.product)) {
+        match find_word(words, next, part.product) {
             Search::Hit {
                 word: _,
                 place,

@@ -27,7 +27,7 @@ module _ (ys : List ℕ) (room : ℕ) where
         decide-past _ _ _ (in-count 0 16384 (length ys) (omega arith) count) ∙ decide-here _ _ _ (lt-ltb room (length ys - 1) (omega arith))
 
     module _ (fits : length ys ≤ room + 1) where
-      rest : rollsBehind ys room ≡ decide (no 8 (not (isOrder ys)) ∷ []) (done (rollsInto (length ys) (countup (length ys) 0) ys) 0 0)
+      rest : rollsBehind ys room ≡ decide (no 8 (not (isOrder ys)) ∷ []) (done (rollsInto (length ys) (countup (length ys) 0) ys) [])
       unfolding rollsBehind
       rest =
           decide-past _ _ _ (in-count 0 16384 (length ys) (omega arith) count) ∙ decide-past _ _ _ (le-ltb room (length ys - 1) (omega arith))
@@ -35,5 +35,5 @@ module _ (ys : List ℕ) (room : ℕ) where
       pub order-not : isOrder ys ≡ false → rollsBehind ys room ≡ refused 8 0
       order-not e = rest ∙ decide-here _ _ _ (ap not e)
 
-      pub order-done : isOrder ys ≡ true → rollsBehind ys room ≡ done (rollsInto (length ys) (countup (length ys) 0) ys) 0 0
+      pub order-done : isOrder ys ≡ true → rollsBehind ys room ≡ done (rollsInto (length ys) (countup (length ys) 0) ys) []
       order-done e = rest ∙ decide-past _ _ _ (ap not e) ∙ decide-none _

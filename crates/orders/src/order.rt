@@ -1,5 +1,6 @@
 // The way back from an order to rolls.
 use answers::answer::Answer;
+use answers::answer::done_answer;
 use answers::answer::refused_answer;
 use answers::limits::MAX_RECORDS;
 use answers::refusal;
@@ -8,11 +9,10 @@ ghost use mathlib.Core.Bool.{true};
 ghost use mathlib.Core.List.{_++_};
 ghost use Prim.Native.Nat.{ℕ, _+_, _-_, _<_, _≤_};
 ghost use lib.ListN.{length, getD, take, drop};
-ghost use Rattle.answers.specs.Outcome.{shown, left};
 ghost use Rattle.rules.specs.Shuffle.{countdown};
 ghost use Rattle.rules.specs.Reservoir.{countup};
 ghost use Rattle.rules.specs.Order.{isOrder, rollsInto};
-ghost use Rattle.orders.specs.Order.{rollsBehind};
+ghost use Rattle.orders.specs.Order.{seenOrder};
 
 // Whether the list holds each of 0, 1, .., n - 1 once. Where it does, the mark of each of them is then its place in 0, 1, .., n - 1,
 // counted from 1; a mark of 0 is none.
@@ -82,8 +82,8 @@ fn write_behind(order: &[u32], marks: &mut [u32], rolls: &mut [u64])
 // it was. No word is used; next and rejected are 0. Three passes over n places and a table of 16,384 marks, with no search. Behind 1, 2,
 // 0 the rolls are 0, 0. While the rules stand the same input has the same answer.
 pub fn rolls_behind(order: &[u32], rolls: &mut [u64]) -> Answer
-    ensures answer { λ r. ⌜ r ≡ shown 0 (rollsBehind (now (order .entry)) (length (now (rolls .entry)))) ⌝ }
-    ensures rolls { λ r. ⌜ now (rolls .exit) ≡ left (now (rolls .entry)) (rollsBehind (now (order .entry)) (length (now (rolls .entry)))) ⌝ }
+    ensures answer { λ r. ⌜ r ≡ seenOrder (now (order .entry)) (now (rolls .entry)) .0 ⌝ }
+    ensures rolls { λ r. ⌜ now (rolls .exit) ≡ seenOrder (now (order .entry)) (now (rolls .entry)) .1 ⌝ }
 {
     if MAX_RECORDS < order.len() {
         return refused_answer(refusal::COUNT, 0, 0);
@@ -97,10 +97,5 @@ pub fn rolls_behind(order: &[u32], rolls: &mut [u64]) -> Answer
     }
     write_countdown(order.len(), rolls);
     write_behind(order, &mut marks, rolls);
-    Answer {
-        no: 0,
-        next: 0,
-        rejected: 0,
-        batch: 0,
-    }
+    done_answer(0, 0)
 }

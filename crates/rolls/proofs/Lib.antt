@@ -1,3 +1,4 @@
+pub mod Checking
 pub mod OneBatch
 pub mod Searching
 pub mod Stepping

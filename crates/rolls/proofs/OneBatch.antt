@@ -1,83 +1,29 @@
--- One batch, refusal by refusal. Assumes nothing.
+-- One batch, by what is found of it. Assumes nothing.
 --
---   some-bounds, few-bounds              bounds that number 2 lets pass are 1 to 16
---   one-refusals                         numbers 2, 4 and 5
---   one-start                            number 9
---   one-searched, one-not-found          done, or number 10, by the answer of the search
---   shown-hit                            the rolls in front of zeros, as the caller sees them
---   Tested, tested-below, tested-whole   the product, held against 2^64, and the threshold that a word is tested by
---   above-refused                        a product above 2^64 is refused
+--   one-refused        bounds that are refused
+--   one-start          number 9
+--   one-not-found      number 10, where the search finds no word
+--   one-found          the rolls in front of zeros, as the caller sees them, where it finds one
 use mathlib.Core.Path.{_≡_, sym, ap, ap₂, _∙_}
-use mathlib.Core.Bool.{true, false}
 use mathlib.Core.List.{List, [], _∷_, _++_, append-nil}
-use Prim.Native.Nat.{ℕ, zero, suc, _+_, _-_, _%_, _^_, _<_, _≤_}
-use native.Mathlib.Nat.{suc-sub-suc, sub-zero, mod-eq-of-lt}
+use Prim.Native.Nat.{ℕ, zero, suc, _+_, _-_, _^_, _<_, _≤_}
+use native.Mathlib.Nat.{suc-sub-suc, sub-zero}
 use native.Mathlib.Omega.{arith}
-use lib.Dec.{ltb}
 use lib.ListN.{length, drop, replicate}
-use Rattle.rules.specs.Rolls.{rolls, product, threshold, accepted, hasZero}
-use Rattle.arithmetic.specs.Products.{against}
-use Rattle.arithmetic.specs.declared.bounds.Product.the-variants.{Below, Whole, Above}
-use Rattle.rules.specs.Width.{w64}
-use borrow.Author.Tests.{ltb-false, le-ltb, lt-ltb}
-use Rattle.rules.proofs.Facts.{or-left, or-right}
-use Rattle.arithmetic.proofs.Limits.{held-below, held-whole, held-above}
-use Rattle.rules.proofs.Rolls.{rolls-length}
+use Rattle.rules.specs.Limits.{maxBatch}
+use Rattle.rules.specs.Rolls.{rolls, accepted}
 use Rattle.rules.specs.Run.{Taken, found, missing, find, Run, ran, suffices, runFrom, run, trace, rollsOf, next, rejected}
-use Rattle.answers.specs.Outcome.{refused, done, decide, outside, ofWords, fromRun, shownBatch}
-use Rattle.rolls.specs.Batch.{rollBatch}
-use Rattle.rolls.specs.Inner.{passes, searched}
-use Rattle.rolls.specs.declared.search.Search.the-variants.{Hit, Missing}
-use Rattle.answers.proofs.Deciding.{OfBatch, of-batch, no-start, no-words, words-done}
-use Rattle.rolls.proofs.Searching.{find-batch, searched-hit, searched-missing}
+use Rattle.rules.specs.Width.{Width}
 use Rattle.rules.proofs.Finding.{find-within}
+use Rattle.rules.proofs.Rolls.{rolls-length}
 use Rattle.rules.proofs.Running.{run-hit, run-missing}
-
-module _ (bs : List ℕ) (count : outside 1 16 (length bs) ≡ false) where
-  pub some-bounds : 0 < length bs
-  some-bounds = ltb-false (length bs) 1 (or-left (ltb (length bs) 1) (ltb 16 (length bs)) count)
-
-  pub few-bounds : length bs ≤ 16
-  few-bounds = ltb-false 16 (length bs) (or-right (ltb (length bs) 1) (ltb 16 (length bs)) count)
-
-module _ (words : List ℕ) (start : ℕ) (bs : List ℕ) where
-  pub one-refusals : OfBatch bs (rollBatch w64 words start bs) (decide (ofWords 64 (bs ∷ []) words start) (fromRun 64 (bs ∷ []) words start (λ rs. rs)))
-  unfolding rollBatch
-  one-refusals = of-batch bs _ _
-
-  module _ (count : outside 1 16 (length bs) ≡ false) (zeros : hasZero bs ≡ false) (fits : ltb (2 ^ 64) (product bs) ≡ false) where
-    rest : rollBatch w64 words start bs ≡ decide (ofWords 64 (bs ∷ []) words start) (fromRun 64 (bs ∷ []) words start (λ rs. rs))
-    rest = one-refusals .passed count zeros fits
-
-    pub one-start : length words < start → rollBatch w64 words start bs ≡ refused 9 0
-    one-start h = rest ∙ no-start 64 (bs ∷ []) words start _ h
-
-    one-missing : start ≤ length words → find (accepted 64 bs) (drop start words) start ≡ missing
-        → rollBatch w64 words start bs ≡ refused 10 0
-    one-missing h e = rest ∙ no-words 64 (bs ∷ []) words start _ h 0 (run-missing 64 bs [] words start 0 e)
-
-    one-hit : start ≤ length words → (t : Taken) → find (accepted 64 bs) (drop start words) start ≡ found t
-        → rollBatch w64 words start bs ≡ done (rolls 64 bs (t .word)) (t .place + 1) (t .place - start)
-    unfolding runFrom rollsOf next rejected
-    one-hit h t e =
-        let r : run 64 (bs ∷ []) words start ≡ ran (t ∷ []) = run-hit 64 bs [] words start 0 e in
-        rest ∙ words-done 64 (bs ∷ []) words start _ h (ap suffices r)
-        ∙ ap (λ (x : Run). done (rollsOf 64 (bs ∷ []) (trace x)) (next start (trace x)) (rejected start (trace x))) r
-        ∙ ap₂ (λ (l : List ℕ) (n : ℕ). done l (t .place + 1) n) (append-nil (rolls 64 bs (t .word))) (omega arith)
-
-    -- the search as the code makes it, with the product at 64 bits and the threshold
-    module _ (h : start ≤ length words) (b t : ℕ) (e : b ≡ product bs % 2 ^ 64) (f : t ≡ threshold 64 (product bs)) where
-      same : find (passes b t) (drop start words) start ≡ find (accepted 64 bs) (drop start words) start
-      same = find-batch bs b t (some-bounds bs count) e f (drop start words) start
-
-      pub one-searched : (w place m : ℕ) → searched start (find (passes b t) (drop start words) start) ≡ Hit w place m
-          → (rollBatch w64 words start bs ≡ done (rolls 64 bs w) (place + 1) m) × (place < length words)
-      one-searched w place m s =
-          let o = searched-hit start _ w place m s in
-          (rw (o .1) (one-hit h (record { place = place; word = w }) (sym same ∙ o .0)), find-within _ words start (o .0) .1)
-
-      pub one-not-found : searched start (find (passes b t) (drop start words) start) ≡ Missing → rollBatch w64 words start bs ≡ refused 10 0
-      one-not-found s = one-missing h (sym same ∙ searched-missing start _ s)
+use Rattle.answers.specs.Outcome.{Outcome, refused, done, decide, ofBounds, ofWords, fromRun, shownBatch}
+use Rattle.answers.specs.declared.answer.Batch.{Batch}
+use Rattle.answers.proofs.Deciding.{decide-append, no-start, no-words, words-done}
+use Rattle.rolls.specs.Batch.{rollBatch}
+use Rattle.rolls.specs.Inner.{searched}
+use Rattle.rolls.specs.declared.search.Search.the-variants.{Hit, Missing}
+use Rattle.rolls.proofs.Searching.{searched-hit, searched-missing}
 
 -- ---- sixteen places
 
@@ -87,31 +33,56 @@ drop-zeros (suc n) zero = let e : 0 ≡ 0 - suc n = omega arith in ap (λ (k : �
 drop-zeros (suc n) (suc m) = rw suc-sub-suc (drop-zeros n m)
 
 -- what the code returns, of the rolls that it wrote to an array of sixteen zeros
-pub shown-hit : (bs : List ℕ) (start w place more : ℕ) (out : List ℕ) → out ≡ rolls 64 bs w ++ drop (length bs) (replicate 16 0)
-    → record { no = 0; next = place; rejected = more; count = length bs; rolls = out } ≡ shownBatch start (done (rolls 64 bs w) place more)
-shown-hit bs start w place more out e =
-    let n : length bs ≡ length (rolls 64 bs w) = sym (rolls-length 64 bs w) in
-    let z : out ≡ rolls 64 bs w ++ replicate (16 - length (rolls 64 bs w)) 0
-    = e ∙ ap (λ (k : ℕ). rolls 64 bs w ++ drop k (replicate 16 0)) n ∙ ap (λ (l : List ℕ). rolls 64 bs w ++ l) (drop-zeros (length (rolls 64 bs w)) 16) in
-    λ i. record { no = 0; next = place; rejected = more; count = n i; rolls = z i }
+shown-hit : (L : ℕ) (bs : List ℕ) (start w place : ℕ) (out : List ℕ) → out ≡ rolls L bs w ++ drop (length bs) (replicate maxBatch 0)
+    → record { no = 0; next = place + 1; rejected = place - start; count = length bs; rolls = out }
+    ≡ shownBatch start (done (rolls L bs w) (record { place = place; word = w } ∷ []))
+unfolding next rejected
+shown-hit L bs start w place out e =
+    let n : length bs ≡ length (rolls L bs w) = sym (rolls-length L bs w) in
+    let z : out ≡ rolls L bs w ++ replicate (maxBatch - length (rolls L bs w)) 0
+    = e ∙ ap (λ (k : ℕ). rolls L bs w ++ drop k (replicate maxBatch 0)) n ∙ ap (λ (l : List ℕ). rolls L bs w ++ l) (drop-zeros (length (rolls L bs w)) maxBatch) in
+    let m : place - start ≡ place - start + 0 = omega arith in
+    λ i. record { no = 0; next = place + 1; rejected = m i; count = n i; rolls = z i }
 
--- ---- the product, held against 2^64, and its threshold
+-- ---- one batch
 
--- the product is at most 2^64, b is the product at 64 bits, and t is its threshold
-pub record Tested (bs : List ℕ) (b t : ℕ) : Type 0 where
-  pub fits : ltb (2 ^ 64) (product bs) ≡ false
-  pub wraps : b ≡ product bs % 2 ^ 64
-  pub least : t ≡ threshold 64 (product bs)
+module _ (W : Width) (words : List ℕ) (start : ℕ) (bs : List ℕ) where
+  abbrev L : ℕ
+  L = W .bits
 
-pub tested-below : (bs : List ℕ) (b : ℕ) → against (product bs) ≡ Below b → (t : ℕ) → t ≡ threshold 64 b → Tested bs b t
-tested-below bs b e t f =
-    let o = held-below (product bs) b e in
-    record { fits = le-ltb (2 ^ 64) (product bs) (omega (arith, o .1)); wraps = o .0 ∙ sym (mod-eq-of-lt (o .1)); least = f ∙ ap (threshold 64) (o .0) }
+  past-bounds : rollBatch W words start bs ≡ decide (ofBounds W bs) (decide (ofWords L (bs ∷ []) words start) (fromRun L (bs ∷ []) words start (λ rs. rs)))
+  unfolding rollBatch
+  past-bounds = decide-append (ofBounds W bs) _ _
 
-pub tested-whole : (bs : List ℕ) → against (product bs) ≡ Whole → Tested bs 0 0
-tested-whole bs e =
-    let w : product bs ≡ 2 ^ 64 = held-whole (product bs) e in
-    record { fits = le-ltb (2 ^ 64) (product bs) (omega (arith, w)); wraps = sym (ap (λ (n : ℕ). n % 2 ^ 64) w); least = sym (ap (threshold 64) w) }
+  pub one-refused : (n k : ℕ) → ((o : Outcome) → decide (ofBounds W bs) o ≡ refused n k) → (a : Batch) → a ≡ shownBatch start (refused n 0)
+      → a ≡ shownBatch start (rollBatch W words start bs)
+  one-refused n k r a e = e ∙ ap (shownBatch start) (sym (past-bounds ∙ r _))
 
-pub above-refused : (bs : List ℕ) → against (product bs) ≡ Above → ltb (2 ^ 64) (product bs) ≡ true
-above-refused bs e = lt-ltb (2 ^ 64) (product bs) (held-above (product bs) e)
+  module _ (p : (o : Outcome) → decide (ofBounds W bs) o ≡ o) where
+    rest : rollBatch W words start bs ≡ decide (ofWords L (bs ∷ []) words start) (fromRun L (bs ∷ []) words start (λ rs. rs))
+    rest = past-bounds ∙ p _
+
+    pub one-start : length words < start → rollBatch W words start bs ≡ refused 9 0
+    one-start h = rest ∙ no-start L (bs ∷ []) words start _ h
+
+    module _ (h : start ≤ length words) where
+      pub one-not-found : searched start (find (accepted L bs) (drop start words) start) ≡ Missing → rollBatch W words start bs ≡ refused 10 0
+      one-not-found s = rest ∙ no-words L (bs ∷ []) words start _ h 0 (run-missing L bs [] words start 0 (searched-missing start _ s))
+
+      one-hit : (t : Taken) → find (accepted L bs) (drop start words) start ≡ found t → rollBatch W words start bs ≡ done (rolls L bs (t .word)) (t ∷ [])
+      unfolding runFrom rollsOf
+      one-hit t e =
+          let r : run L (bs ∷ []) words start ≡ ran (t ∷ []) = run-hit L bs [] words start 0 e in
+          rest ∙ words-done L (bs ∷ []) words start _ h (ap suffices r)
+          ∙ ap (λ (x : Run). done (rollsOf L (bs ∷ []) (trace x)) (trace x)) r
+          ∙ ap (λ (l : List ℕ). done l (t ∷ [])) (append-nil (rolls L bs (t .word)))
+
+      module _ (w place m : ℕ) (s : searched start (find (accepted L bs) (drop start words) start) ≡ Hit w place m) where
+        pub found-within : place < length words
+        found-within = find-within _ words start (searched-hit start _ w place m s .0) .1
+
+        pub one-found : (out : List ℕ) → out ≡ rolls L bs w ++ drop (length bs) (replicate maxBatch 0)
+            → record { no = 0; next = place + 1; rejected = m; count = length bs; rolls = out } ≡ shownBatch start (rollBatch W words start bs)
+        one-found out e =
+            let o = searched-hit start _ w place m s in
+            rw (o .1) (shown-hit L bs start w place out e ∙ ap (shownBatch start) (sym (one-hit (record { place = place; word = w }) (o .0))))

@@ -1,35 +1,50 @@
+-- The search for a batch's word, as the code makes it. Assumes nothing.
+--
+--   find-batch                       the test by the low half of the product finds what the test of the last r finds
+--   passes-tested                    that test, as the code makes it
+--   searched-hit, searched-missing   what the answer of a search says of it
 use mathlib.Core.Path.{_≡_, refl, sym, ap, ap₂, _∙_}
+use mathlib.Core.Bool.{Bool}
 use mathlib.Core.List.{List, [], _∷_}
-use Prim.Native.Nat.{ℕ, _-_, _*_, _/_, _%_, _^_, _<_}
-use native.Mathlib.Nat.{div-add-mod, mul-add-mod-self-left, not-suc-le-zero}
-use native.Mathlib.Omega.{arith}
+use Prim.Native.Nat.{ℕ, _-_, _*_, _%_, _^_, _<_}
+use native.Mathlib.Nat.{not-suc-le-zero, zero-mul, zero-mod, mul-mod-right}
+use native.Mathlib.Decide.{ℕ-discrete}
 use lib.Dec.{leb}
 use lib.ListN.{length}
-use Rattle.rules.proofs.Finding.{find-same}
 use Rattle.rules.specs.Rolls.{product, threshold, accepted}
-use Rattle.rules.proofs.Facts.{clash}
-use Rattle.rules.proofs.Rolls.{rest-low}
 use Rattle.rules.specs.Run.{Found, found, missing, find}
+use Rattle.rules.proofs.Facts.{clash}
+use Rattle.rules.proofs.Finding.{find-same}
+use Rattle.rules.proofs.Rolls.{rest-low}
+use Rattle.arithmetic.specs.Products.{unwrap}
+use Rattle.arithmetic.proofs.Limits.{unwrap-whole, unwrap-some}
 use Rattle.rolls.specs.Inner.{passes, searched}
 use Rattle.rolls.specs.declared.search.Search.the-variants.{Hit, Missing}
 
 -- ---- the test that the code makes
 
--- a product that wraps leaves the same low half
-wrapped : (x w m : ℕ) → x % m * w % m ≡ x * w % m
-wrapped x w m =
-    sym (ap (λ (n : ℕ). n % m) (omega (arith, ap (λ (n : ℕ). n * w) (div-add-mod x m))) ∙ mul-add-mod-self-left m (x / m * w) (x % m * w))
-
-passes-accepted : (bs : List ℕ) (b t : ℕ) → 0 < length bs → b ≡ product bs % 2 ^ 64 → t ≡ threshold 64 (product bs)
-    → (w : ℕ) → passes b t w ≡ accepted 64 bs w
-passes-accepted [] b t h e f w = absurd (not-suc-le-zero h)
-passes-accepted (c ∷ bs) b t h e f w =
-    ap₂ leb f (ap (λ (n : ℕ). n * w % 2 ^ 64) e ∙ wrapped (product (c ∷ bs)) w (2 ^ 64) ∙ sym (rest-low 64 c bs w))
+passes-accepted : (L : ℕ) (bs : List ℕ) (b : ℕ) → 0 < length bs → b ≡ product bs → (w : ℕ) → passes L b w ≡ accepted L bs w
+passes-accepted L [] b h e w = absurd (not-suc-le-zero h)
+passes-accepted L (c ∷ bs) b h e w =
+    ap₂ leb (ap (threshold L) e) (ap (λ (n : ℕ). n * w % 2 ^ L) e ∙ sym (rest-low L c bs w))
 
 -- the search by that test finds the batch's word
-pub find-batch : (bs : List ℕ) (b t : ℕ) → 0 < length bs → b ≡ product bs % 2 ^ 64 → t ≡ threshold 64 (product bs)
-    → (words : List ℕ) (at : ℕ) → find (passes b t) words at ≡ find (accepted 64 bs) words at
-find-batch bs b t h e f = find-same (passes b t) (accepted 64 bs) (passes-accepted bs b t h e f)
+pub find-batch : (L : ℕ) (bs : List ℕ) (b : ℕ) → 0 < length bs → b ≡ product bs
+    → (words : List ℕ) (at : ℕ) → find (passes L b) words at ≡ find (accepted L bs) words at
+find-batch L bs b h e = find-same (passes L b) (accepted L bs) (passes-accepted L bs b h e)
+
+-- a product that wraps leaves the same low half
+low-unwrap : (L b w : ℕ) → b * w % 2 ^ L ≡ unwrap L b * w % 2 ^ L
+low-unwrap L b w = go (ℕ-discrete b 0)
+  where
+    go : Dec (b ≡ 0) → b * w % 2 ^ L ≡ unwrap L b * w % 2 ^ L
+    go (yes e) =
+        ap (λ (n : ℕ). n * w % 2 ^ L) e ∙ ap (λ (n : ℕ). n % 2 ^ L) (zero-mul w) ∙ zero-mod (2 ^ L)
+        ∙ sym (ap (λ (n : ℕ). n * w % 2 ^ L) (unwrap-whole L b e) ∙ mul-mod-right (2 ^ L) w)
+    go (no n) = ap (λ (m : ℕ). m * w % 2 ^ L) (sym (unwrap-some L b n))
+
+pub passes-tested : (L b t r w : ℕ) (p : Bool) → t ≡ threshold L (unwrap L b) → r ≡ b * w % 2 ^ L → leb t r ≡ p → passes L (unwrap L b) w ≡ p
+passes-tested L b t r w p e f g = sym (ap₂ leb e (f ∙ low-unwrap L b w)) ∙ g
 
 -- ---- a search's answer
 

@@ -1,4 +1,6 @@
 // One batch of bounds.
+use super::check::Checked;
+use super::check::check_bounds;
 use super::search::Search;
 use super::search::find_word;
 use super::unfold::write_rolls;
@@ -6,30 +8,23 @@ use answers::answer::Batch;
 use answers::answer::refused_batch;
 use answers::limits::MAX_BATCH;
 use answers::refusal;
-use arithmetic::bounds::Product;
-use arithmetic::bounds::has_zero;
-use arithmetic::bounds::product_of;
-use arithmetic::bounds::threshold_of;
 ghost use mathlib.Core.Path.{_≡_};
-ghost use mathlib.Core.Bool.{false};
+ghost use mathlib.Core.List.{[]};
 ghost use Prim.Native.Nat.{_%_, _^_};
-ghost use lib.Dec.{ltb};
-ghost use lib.ListN.{length};
-ghost use Rattle.rules.specs.Rolls.{product, threshold, hasZero};
+ghost use Rattle.rules.specs.Rolls.{product};
 ghost use Rattle.rules.specs.Width.{w64};
-ghost use Rattle.answers.specs.Outcome.{outside, shownBatch};
-ghost use Rattle.rolls.specs.Batch.{rollBatch};
+ghost use Rattle.answers.specs.Outcome.{done, decide, ofBounds};
+ghost use Rattle.rolls.specs.Batch.{seenBatch};
 
-// One batch whose bounds are not refused, with their product taken at 64 bits and their threshold.
-fn draw_batch(words: &[u64], start: usize, bounds: &[u64], b: u64, t: u64) -> Batch
-    requires { ⌜ (outside 1 16 (length (now bounds)) ≡ false) × (hasZero (now bounds) ≡ false) × (ltb (2 ^ 64) (product (now bounds)) ≡ false) ⌝ }
-    requires { ⌜ (b ≡ product (now bounds) % 2 ^ 64) × (t ≡ threshold 64 (product (now bounds))) ⌝ }
-    ensures { λ r. ⌜ r ≡ shownBatch start (rollBatch w64 (now (words .entry)) start (now (bounds .entry))) ⌝ }
+// One batch whose bounds are not refused, with their product at 64 bits.
+fn draw_batch(words: &[u64], start: usize, bounds: &[u64], b: u64) -> Batch
+    requires { ⌜ (decide (ofBounds w64 (now bounds)) (done [] []) ≡ done [] []) × (b ≡ product (now bounds) % 2 ^ 64) ⌝ }
+    ensures { λ r. ⌜ r ≡ seenBatch w64 (now (words .entry)) start (now (bounds .entry)) ⌝ }
 {
     if words.len() < start {
         return refused_batch(refusal::START, start);
     }
-    match find_word(words, start, b, t) {
+    match find_word(words, start, b) {
         Search::Hit {
             word,
             place,
@@ -56,20 +51,10 @@ fn draw_batch(words: &[u64], start: usize, bounds: &[u64], b: u64, t: u64) -> Ba
 // two for each bound, a multiplication for each word looked at, the two halves of a product for each roll. With bounds 2, 6 and words
 // 0, 1 the rolls are 0, 0, next is 2 and one word is rejected. While the rules stand the same input has the same answer.
 pub fn roll_batch(words: &[u64], start: usize, bounds: &[u64]) -> Batch
-    ensures { λ r. ⌜ r ≡ shownBatch start (rollBatch w64 (now (words .entry)) start (now (bounds .entry))) ⌝ }
+    ensures { λ r. ⌜ r ≡ seenBatch w64 (now (words .entry)) start (now (bounds .entry)) ⌝ }
 {
-    if bounds.len() < 1 {
-        return refused_batch(refusal::COUNT, start);
-    }
-    if MAX_BATCH < bounds.len() {
-        return refused_batch(refusal::COUNT, start);
-    }
-    if has_zero(bounds) {
-        return refused_batch(refusal::ZERO, start);
-    }
-    match product_of(bounds) {
-        Product::Below(b) => draw_batch(words, start, bounds, b, threshold_of(b)),
-        Product::Whole => draw_batch(words, start, bounds, 0, 0),
-        Product::Above => refused_batch(refusal::PRODUCT, start),
+    match check_bounds(bounds) {
+        Checked::Held { product } => draw_batch(words, start, bounds, product),
+        Checked::Refused { no } => refused_batch(no, start),
     }
 }

@@ -14,5 +14,6 @@ pub mod Rows
 pub mod Running
 pub mod Runs
 pub mod ShufflePlans
+pub mod Widths
 pub mod Words
 pub mod Writing

@@ -8,11 +8,12 @@ use mathlib.Core.List.{List, [], _∷_, _++_}
 use Prim.Native.Nat.{ℕ, _*_}
 use lib.ListN.{length}
 use lib.Dec.{leb, ltb}
+use Rattle.rules.specs.Limits.{maxBatch}
 use Rattle.rules.specs.Rolls.{product}
 
 -- Further bounds join in order while the batch has fewer than 16 and its product with the new bound is at most the limit.
 abbrev pub joins : ℕ → List ℕ → ℕ → Bool
-joins limit batch b = ltb (length batch) 16 && leb (product batch * b) limit
+joins limit batch b = ltb (length batch) maxBatch && leb (product batch * b) limit
 
 unfoldable pub cutFrom : ℕ → List ℕ → List ℕ → List (List ℕ)
 cutFrom limit batch [] = batch ∷ []

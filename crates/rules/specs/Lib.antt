@@ -1,4 +1,5 @@
 pub mod Cut
+pub mod Limits
 pub mod Order
 pub mod Plan
 pub mod Reservoir

@@ -1,6 +1,8 @@
+-- What the inner functions answer.
+--
+--   runBehind L b a    the answer for the run of words behind the value a of a batch with product b
 use Prim.Native.Nat.{ℕ, _+_, _-_, _*_, _/_, _^_}
 use Rattle.rules.specs.Rolls.{threshold, up}
-use Rattle.rules.specs.Run.{next, rejected}
 use Rattle.answers.specs.declared.answer.Behind.{Behind}
 
 abbrev pub runBehind : ℕ → ℕ → ℕ → Behind

@@ -2,19 +2,17 @@
 use super::divide::divide_up;
 use answers::answer::Behind;
 use answers::answer::refused_behind;
-use answers::limits::MAX_BATCH;
 use answers::refusal;
-use arithmetic::bounds::Product;
-use arithmetic::bounds::has_zero;
-use arithmetic::bounds::product_of;
 use arithmetic::bounds::threshold_of;
+use rolls::check::Checked;
+use rolls::check::check_bounds;
 ghost use mathlib.Core.Path.{_≡_};
 ghost use mathlib.Core.Bool.{true};
 ghost use Prim.Native.Nat.{_≤_, _<_, _^_};
 ghost use Rattle.rules.specs.Rolls.{product, inRange, value};
 ghost use Rattle.rules.specs.Width.{w64};
-ghost use Rattle.answers.specs.Outcome.{shownBehind};
-ghost use Rattle.runs.specs.Behind.{wordsBehind};
+ghost use Rattle.arithmetic.specs.Products.{unwrap};
+ghost use Rattle.runs.specs.Behind.{seenBehind};
 ghost use Rattle.runs.specs.Inner.{runBehind};
 
 // Whether there is a roll for each bound, each below its bound.
@@ -48,12 +46,21 @@ fn value_of(bounds: &[u64], rolls: &[u64]) -> u64
     a
 }
 
-// The first and the last of the run of words behind a value, for a product b below 2^64: from (2^64 a + t) / b rounded up, as many
-// as 2^64 / b rounded down.
-fn run_below(a: u64, b: u64) -> Behind
-    requires { ⌜ a < b ⌝ }
-    ensures { λ r. ⌜ r ≡ runBehind 64 b a ⌝ }
+// The first and the last of the run of words behind a value, for the product that b stands for: from (2^64 a + t) / b rounded up, as
+// many as 2^64 / b rounded down. With 2^64 words and 2^64 values each value has one word, itself.
+fn run_behind(a: u64, b: u64) -> Behind
+    requires { ⌜ a < unwrap 64 b ⌝ }
+    ensures { λ r. ⌜ r ≡ runBehind 64 (unwrap 64 b) a ⌝ }
 {
+    if b == 0 {
+        return Behind {
+            no: 0,
+            next: 0,
+            rejected: 0,
+            first: a,
+            last: a,
+        };
+    }
     let first = divide_up(a, threshold_of(b), b);
     Behind {
         no: 0,
@@ -71,38 +78,15 @@ fn run_below(a: u64, b: u64) -> Behind
 // division, none for a product of 2^64. For bounds 2, 6 and rolls 0, 0: 1 to 1537228672809129301. While the rules stand the same input
 // has the same answer.
 pub fn words_behind(bounds: &[u64], rolls: &[u64]) -> Behind
-    ensures { λ r. ⌜ r ≡ shownBehind (wordsBehind w64 (now (bounds .entry)) (now (rolls .entry))) ⌝ }
+    ensures { λ r. ⌜ r ≡ seenBehind w64 (now (bounds .entry)) (now (rolls .entry)) ⌝ }
 {
-    if bounds.len() < 1 {
-        return refused_behind(refusal::COUNT);
-    }
-    if MAX_BATCH < bounds.len() {
-        return refused_behind(refusal::COUNT);
-    }
-    if has_zero(bounds) {
-        return refused_behind(refusal::ZERO);
-    }
-    match product_of(bounds) {
-        Product::Below(b) => {
+    match check_bounds(bounds) {
+        Checked::Held { product } => {
             if !in_range(bounds, rolls) {
                 return refused_behind(refusal::MISFIT);
             }
-            run_below(value_of(bounds, rolls), b)
+            run_behind(value_of(bounds, rolls), product)
         }
-        Product::Whole => {
-            if !in_range(bounds, rolls) {
-                return refused_behind(refusal::MISFIT);
-            }
-            // with 2^64 words and 2^64 values each value has one word, itself
-            let a = value_of(bounds, rolls);
-            Behind {
-                no: 0,
-                next: 0,
-                rejected: 0,
-                first: a,
-                last: a,
-            }
-        }
-        Product::Above => refused_behind(refusal::PRODUCT),
+        Checked::Refused { no } => refused_behind(no),
     }
 }

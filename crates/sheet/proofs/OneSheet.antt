@@ -33,7 +33,7 @@ use Rattle.answers.specs.declared.answer.Answer.{Answer}
 use Rattle.answers.proofs.Deciding.{decide-here, decide-past, decide-under, in-count, below-count, above-count}
 use Rattle.draws.specs.Sample.{samplePlan, sampled, sample}
 use Rattle.sheet.specs.Sheet.{Numbers, numbers, entries, wordsOf, recordsOf, isSound}
-use Rattle.sheet.specs.Operations.{runSheet, shownDrawn}
+use Rattle.sheet.specs.Operations.{runSheet, drawnBy, shownDrawn}
 use Rattle.sheet.specs.declared.run.Drawn.{Drawn}
 use Rattle.sheet.proofs.Soundness.{sound-known, entries-length, sheet-records, sheet-room}
 
@@ -126,7 +126,7 @@ NoneIsZero p = (n batch : ℕ) → p ≡ refused n batch → n ≡ 0 → ⊥
 
 pub done-batch : (p : Outcome) (a : Answer) (o : Outcome) → NoneIsZero p → p ≡ o → a ≡ shown 0 o → a .no ≡ 0 → a .batch ≡ 0
 done-batch p a (refused n batch) never e f h = absurd (never n batch e (sym (ap (λ (b : Answer). b .no) f) ∙ h))
-done-batch p a (done values to more) never e f h = ap (λ (b : Answer). b .batch) f
+done-batch p a (done values ts) never e f h = ap (λ (b : Answer). b .batch) f
 
 -- the outcome p, which is o, of which the answer a is shown
 module _ (s : List ℕ) (p : Outcome) (before out : List ℕ) (a : Answer) (d : Drawn) where
@@ -134,13 +134,13 @@ module _ (s : List ℕ) (p : Outcome) (before out : List ℕ) (a : Answer) (d : 
       → (d ≡ shownDrawn s p) × (out ≡ left before p)
   drawn-refused (refused n batch) e f h i =
       (i ∙ ap (λ (b : Answer). shownDrawn [] (refused (b .no) (b .batch))) (f .0) ∙ ap (shownDrawn s) (sym e), f .1 ∙ ap (left before) (sym e))
-  drawn-refused (done values to more) e f h i = absurd (h (ap (λ (b : Answer). b .no) (f .0)))
+  drawn-refused (done values ts) e f h i = absurd (h (ap (λ (b : Answer). b .no) (f .0)))
 
   pub drawn-done : (o : Outcome) → NoneIsZero p → p ≡ o → (a ≡ shown 0 o) × (out ≡ left before o) → a .no ≡ 0
-      → d ≡ shownDrawn s (done [] (a .next) (a .rejected)) → (d ≡ shownDrawn s p) × (out ≡ left before p)
+      → d ≡ drawnBy s (a .next) (a .rejected) → (d ≡ shownDrawn s p) × (out ≡ left before p)
   drawn-done (refused n batch) never e f h i = absurd (never n batch e (sym (ap (λ (b : Answer). b .no) (f .0)) ∙ h))
-  drawn-done (done values to more) never e f h i =
-      (i ∙ ap (λ (b : Answer). shownDrawn s (done [] (b .next) (b .rejected))) (f .0) ∙ ap (shownDrawn s) (sym e), f .1 ∙ ap (left before) (sym e))
+  drawn-done (done values ts) never e f h i =
+      (i ∙ ap (λ (b : Answer). drawnBy s (b .next) (b .rejected)) (f .0) ∙ ap (shownDrawn s) (sym e), f .1 ∙ ap (left before) (sym e))
 
 -- the k that comes back is never above the room: it is 0 on a refusal
 pub drawn-room : (s : List ℕ) (room : ℕ) (d : Drawn) → d ≡ shownDrawn s (runSheet w64 s room) → d .k ≤ room
@@ -148,6 +148,6 @@ drawn-room s room d e = go (runSheet w64 s room) refl
   where
     go : (o : Outcome) → runSheet w64 s room ≡ o → d .k ≤ room
     go (refused n batch) f = let h : d .k ≡ 0 = ap (λ (x : Drawn). x .k) (e ∙ ap (shownDrawn s) f) in omega arith
-    go (done values to more) f =
+    go (done values ts) f =
         let h : d .k ≡ numbers s .k = ap (λ (x : Drawn). x .k) (e ∙ ap (shownDrawn s) f) in
-        omega (arith, sheet-room w64 s room values to more f)
+        omega (arith, sheet-room w64 s room values ts f)

@@ -22,8 +22,8 @@ use lib.Ieee.Bits.{is-true}
 use lib.ListN.{length}
 use borrow.Author.Tests.{not-true, ltb-true, ltb-false, leb-true, le-leb}
 use Rattle.rules.specs.Width.{Width}
-use Rattle.rules.proofs.Facts.{or-left, or-right}
-use Rattle.rules.specs.Run.{Run, ran, short, run}
+use Rattle.rules.proofs.Facts.{clash, or-left, or-right}
+use Rattle.rules.specs.Run.{Taken, Run, ran, short, run}
 use Rattle.answers.specs.Outcome.{Outcome, refused, done, Refusal, no, noWord, decide}
 use Rattle.answers.proofs.Deciding.{decide-here, decide-past, in-count}
 use Rattle.draws.specs.Sample.{samplePlan}
@@ -102,24 +102,20 @@ sheet-records s v = rw (entries-length 4 (numbers s .records) (numbers s .record
 
 -- ---- the numbers of a refusal
 
--- what follows where a refusal is said to be a draw that was done
-clash : _≡_ {A = ℕ} 0 1 → ⊥
-clash e = omega arith
-
 -- n is the number of one of the refusals
 abbrev NumberAmong : ℕ → List Refusal → Type 0
 NumberAmong n [] = ⊥
 NumberAmong n (r ∷ rs) = (n ≡ r .number) ⊎ NumberAmong n rs
 
 -- a refusal that is given is one of the list
-given : (rs : List Refusal) (drawn : List ℕ) (to more n batch : ℕ) → decide rs (done drawn to more) ≡ refused n batch → NumberAmong n rs
+given : (rs : List Refusal) (drawn : List ℕ) (ts : List Taken) (n batch : ℕ) → decide rs (done drawn ts) ≡ refused n batch → NumberAmong n rs
 unfolding decide
-given [] drawn to more n batch e = clash cc
-given (r ∷ rs) drawn to more n batch e = go (r .applies) refl (given rs drawn to more n batch)
+given [] drawn ts n batch e = clash cc
+given (r ∷ rs) drawn ts n batch e = go (r .applies) refl (given rs drawn ts n batch)
   where
-    go : (b : Bool) → r .applies ≡ b → (decide rs (done drawn to more) ≡ refused n batch → NumberAmong n rs) → NumberAmong n (r ∷ rs)
-    go true f others = inl (let g = sym (decide-here r rs (done drawn to more) f) ∙ e in cc)
-    go false f others = inr (others (sym (decide-past r rs (done drawn to more) f) ∙ e))
+    go : (b : Bool) → r .applies ≡ b → (decide rs (done drawn ts) ≡ refused n batch → NumberAmong n rs) → NumberAmong n (r ∷ rs)
+    go true f others = inl (let g = sym (decide-here r rs (done drawn ts) f) ∙ e in cc)
+    go false f others = inr (others (sym (decide-past r rs (done drawn ts) f) ∙ e))
 
 -- n is 1, 3, 6 or 10
 abbrev OneOfFour : ℕ → Type 0
@@ -128,7 +124,7 @@ OneOfFour n = (n ≡ 1) ⊎ ((n ≡ 3) ⊎ ((n ≡ 6) ⊎ (n ≡ 10)))
 pub sheet-refusal : (W : Width) (s : List ℕ) (room n batch : ℕ) → runSheet W s room ≡ refused n batch → OneOfFour n
 unfolding runSheet
 sheet-refusal W s room n batch e =
-    go (run (W .bits) (samplePlan W (numbers s .records) (numbers s .k)) (wordsOf s) 0) (given (sheetRefusals W s room) _ _ _ n batch e)
+    go (run (W .bits) (samplePlan W (numbers s .records) (numbers s .k)) (wordsOf s) 0) (given (sheetRefusals W s room) _ _ n batch e)
   where
     go : (r : Run) → NumberAmong n (no 1 (not (isSound s)) ∷ no 3 false ∷ no 6 false ∷ noWord r ∷ []) → OneOfFour n
     go r (inl f) = inl f
@@ -152,14 +148,14 @@ pub sheet-start : (W : Width) (s : List ℕ) (room batch : ℕ) → runSheet W s
 sheet-start W s room batch e = four-only 9 (sheet-refusal W s room 9 batch e) .2 refl
 
 -- a draw that was done had room for its k
-room-known : (unsound size small : Bool) (r : Refusal) (o : Outcome) (drawn : List ℕ) (to more : ℕ)
-    → decide (no 1 unsound ∷ no 3 size ∷ no 6 small ∷ r ∷ []) o ≡ done drawn to more → small ≡ false
+room-known : (unsound size small : Bool) (r : Refusal) (o : Outcome) (drawn : List ℕ) (ts : List Taken)
+    → decide (no 1 unsound ∷ no 3 size ∷ no 6 small ∷ r ∷ []) o ≡ done drawn ts → small ≡ false
 unfolding decide
-room-known true size small r o drawn to more e = absurd (clash cc)
-room-known false true small r o drawn to more e = absurd (clash cc)
-room-known false false true r o drawn to more e = absurd (clash cc)
-room-known false false false r o drawn to more e = refl
+room-known true size small r o drawn ts e = clash cc
+room-known false true small r o drawn ts e = clash cc
+room-known false false true r o drawn ts e = clash cc
+room-known false false false r o drawn ts e = refl
 
-pub sheet-room : (W : Width) (s : List ℕ) (room : ℕ) (drawn : List ℕ) (to more : ℕ) → runSheet W s room ≡ done drawn to more → numbers s .k ≤ room
+pub sheet-room : (W : Width) (s : List ℕ) (room : ℕ) (drawn : List ℕ) (ts : List Taken) → runSheet W s room ≡ done drawn ts → numbers s .k ≤ room
 unfolding runSheet
-sheet-room W s room drawn to more e = ltb-false room (numbers s .k) (room-known _ _ _ _ _ drawn to more e)
+sheet-room W s room drawn ts e = ltb-false room (numbers s .k) (room-known _ _ _ _ _ drawn ts e)

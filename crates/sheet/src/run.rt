@@ -11,10 +11,10 @@ ghost use Prim.Native.Nat.{_≤_, min, max};
 ghost use lib.Dec.{ltb};
 ghost use lib.ListN.{length};
 ghost use Rattle.rules.specs.Width.{w64};
-ghost use Rattle.answers.specs.Outcome.{refused, done, shown, left};
-ghost use Rattle.draws.specs.Sample.{sample};
+ghost use Rattle.answers.specs.Outcome.{refused};
+ghost use Rattle.draws.specs.Sample.{seenSample};
 ghost use Rattle.sheet.specs.Sheet.{numbers, wordsOf, recordsOf, Sound, isSound};
-ghost use Rattle.sheet.specs.Operations.{runSheet, shownDrawn};
+ghost use Rattle.sheet.specs.Operations.{drawnBy, shownDrawn, seenSheet};
 
 // The places of the six numbers, each of 4 bytes.
 const WORD_COUNT: usize = 0;
@@ -116,7 +116,7 @@ fn refused_drawn(number: u64, batch: usize) -> Drawn
 // An answer that refuses nothing, with the six numbers of its sheet.
 fn done_drawn(sheet: &[u8], answer: Answer) -> Drawn
     requires { ⌜ (24 ≤ length (now sheet)) × (answer .no ≡ 0) × (answer .batch ≡ 0) ⌝ }
-    ensures { λ r. ⌜ r ≡ shownDrawn (now (sheet .entry)) (done [] (answer .next) (answer .rejected)) ⌝ }
+    ensures { λ r. ⌜ r ≡ drawnBy (now (sheet .entry)) (answer .next) (answer .rejected) ⌝ }
 {
     Drawn {
         no: answer.no,
@@ -135,8 +135,8 @@ fn done_drawn(sheet: &[u8], answer: Answer) -> Drawn
 // The sample of a sound sheet, from start 0.
 fn sample_sheet(sheet: &[u8], slots: &mut [u32]) -> Answer
     requires { ⌜ Sound (now sheet) ⌝ }
-    ensures answer { λ r. ⌜ r ≡ shown 0 (sample w64 (wordsOf (now (sheet .entry))) 0 (recordsOf (now (sheet .entry))) (numbers (now (sheet .entry)) .k) (length (now (slots .entry)))) ⌝ }
-    ensures slots { λ r. ⌜ now (slots .exit) ≡ left (now (slots .entry)) (sample w64 (wordsOf (now (sheet .entry))) 0 (recordsOf (now (sheet .entry))) (numbers (now (sheet .entry)) .k) (length (now (slots .entry)))) ⌝ }
+    ensures answer { λ r. ⌜ r ≡ seenSample w64 (wordsOf (now (sheet .entry))) 0 (recordsOf (now (sheet .entry))) (numbers (now (sheet .entry)) .k) (now (slots .entry)) .0 ⌝ }
+    ensures slots { λ r. ⌜ now (slots .exit) ≡ seenSample w64 (wordsOf (now (sheet .entry))) 0 (recordsOf (now (sheet .entry))) (numbers (now (sheet .entry)) .k) (now (slots .entry)) .1 ⌝ }
 {
     let m = read_number(sheet, WORD_COUNT) as usize;
     let n = read_number(sheet, RECORD_COUNT) as usize;
@@ -163,8 +163,8 @@ fn sample_sheet(sheet: &[u8], slots: &mut [u32]) -> Answer
 // 0, 1 and the records 101, 205, 309 give 309: next is 2 and one word is rejected. While the rules stand the same input has the same
 // answer.
 pub fn run_sheet(sheet: &[u8], slots: &mut [u32]) -> Drawn
-    ensures answer { λ r. ⌜ r ≡ shownDrawn (now (sheet .entry)) (runSheet w64 (now (sheet .entry)) (length (now (slots .entry)))) ⌝ }
-    ensures slots { λ r. ⌜ now (slots .exit) ≡ left (now (slots .entry)) (runSheet w64 (now (sheet .entry)) (length (now (slots .entry)))) ⌝ }
+    ensures answer { λ r. ⌜ r ≡ seenSheet w64 (now (sheet .entry)) (now (slots .entry)) .0 ⌝ }
+    ensures slots { λ r. ⌜ now (slots .exit) ≡ seenSheet w64 (now (sheet .entry)) (now (slots .entry)) .1 ⌝ }
 {
     if !is_sound(sheet) {
         return refused_drawn(refusal::SHEET, 0);

@@ -3,11 +3,11 @@ use super::supply::batch_size;
 use super::supply::product_down;
 use super::supply::supply_shuffle;
 use answers::answer::Answer;
+use answers::answer::done_answer;
 use answers::answer::refused_answer;
 use answers::limits::MAX_RECORDS;
 use answers::refusal;
 use answers::supply::Supply;
-use arithmetic::bounds::threshold_of;
 use arithmetic::wide::high;
 use arithmetic::wide::low;
 use rolls::search::Search;
@@ -19,9 +19,8 @@ ghost use lib.ListN.{length};
 ghost use Rattle.rules.specs.Rolls.{rolls};
 ghost use Rattle.rules.specs.Width.{size64, w64};
 ghost use Rattle.rules.specs.Run.{run, trace, rollsOf, suffices};
-ghost use Rattle.answers.specs.Outcome.{shown, left};
 ghost use Rattle.rules.specs.Shuffle.{exchange, shuffleWith, countdown, shufflePlan};
-ghost use Rattle.shuffles.specs.Shuffle.{shuffle};
+ghost use Rattle.shuffles.specs.Shuffle.{seenShuffle};
 
 // Exchanges the records at places i and j.
 fn exchange_records(records: &mut [u32], i: usize, j: usize)
@@ -61,7 +60,7 @@ fn place_all(words: &[u64], start: usize, records: &mut [u32])
     while 1 < m {
         let s = batch_size(m);
         let b = product_down(m, s);
-        match find_word(words, next, b, threshold_of(b)) {
+        match find_word(words, next, b) {
             Search::Hit {
                 word,
                 place,
@@ -87,8 +86,8 @@ fn place_all(words: &[u64], start: usize, records: &mut [u32])
 // remainder for each batch; the two halves of a product for each record. Of 0, 1, 2 with words 0, 1 it makes 1, 2, 0: next is 2 and
 // one word is rejected. While the rules stand the same input has the same answer.
 pub fn shuffle_records(words: &[u64], start: usize, records: &mut [u32]) -> Answer
-    ensures answer { λ r. ⌜ r ≡ shown start (shuffle w64 (now (words .entry)) start (now (records .entry))) ⌝ }
-    ensures records { λ r. ⌜ now (records .exit) ≡ left (now (records .entry)) (shuffle w64 (now (words .entry)) start (now (records .entry))) ⌝ }
+    ensures answer { λ r. ⌜ r ≡ seenShuffle w64 (now (words .entry)) start (now (records .entry)) .0 ⌝ }
+    ensures records { λ r. ⌜ now (records .exit) ≡ seenShuffle w64 (now (words .entry)) start (now (records .entry)) .1 ⌝ }
 {
     if MAX_RECORDS < records.len() {
         return refused_answer(refusal::COUNT, start, 0);
@@ -99,12 +98,7 @@ pub fn shuffle_records(words: &[u64], start: usize, records: &mut [u32]) -> Answ
     match supply_shuffle(words, start, records.len()) {
         Supply::Enough { next, rejected } => {
             place_all(words, start, records);
-            Answer {
-                no: 0,
-                next,
-                rejected,
-                batch: 0,
-            }
+            done_answer(next, rejected)
         }
         Supply::Short { batch } => refused_answer(refusal::WORDS, start, batch),
     }

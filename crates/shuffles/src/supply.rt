@@ -1,6 +1,5 @@
 // The batches of a shuffle, and whether the words suffice for them. It is known before any record is exchanged.
 use answers::supply::Supply;
-use arithmetic::bounds::threshold_of;
 use rolls::search::Search;
 use rolls::search::find_word;
 ghost use mathlib.Core.Path.{_≡_};
@@ -58,7 +57,7 @@ pub fn supply_shuffle(words: &[u64], start: usize, n: usize) -> Supply
     while 1 < m {
         let s = batch_size(m);
         let b = product_down(m, s);
-        match find_word(words, next, b, threshold_of(b)) {
+        match find_word(words, next, b) {
             Search::Hit {
                 word: _,
                 place,

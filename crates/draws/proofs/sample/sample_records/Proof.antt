@@ -7,6 +7,7 @@ use native.Mathlib.Omega.{arith}
 use lib.ListN.{length, take, drop, replicate, length-replicate}
 use borrow.Author.Tests.{lt-ltb, le-ltb}
 use Rattle.answers.proofs.Deciding.{in-count, below-count, above-count, refused-seen}
+use Rattle.rules.specs.Width.{w64}
 use Rattle.rules.specs.Reservoir.{countup}
 use Rattle.draws.proofs.Sampling.{prefix-count, array-kept, prefix-back}
 use Rattle.draws.proofs.OneSample.{sample-count, sample-size, sample-room, sample-start}
@@ -34,7 +35,7 @@ refused-answer-requires c κs = search needs
 returns : tie.Need-returns
 returns c = let a = c .before .before .before .before .before .args in
     refused-seen _ 2 0 _ _ _
-    (sample-count (a .words .now) (a .start) (a .records .now) (a .k) (length (a .slots .now)) (above-count 0 16384 (length (a .records .now)) (c .before .if1 .taken)))
+    (sample-count w64 (a .words .now) (a .start) (a .records .now) (a .k) (length (a .slots .now)) (above-count 0 16384 (length (a .records .now)) (c .before .if1 .taken)))
     (c .refused-answer .ensures)
 
 refused-answer-requires-2 : tie.Need-refused-answer-requires-2
@@ -43,7 +44,7 @@ refused-answer-requires-2 c κs = search needs
 returns-2 : tie.Need-returns-2
 returns-2 c = let a = c .before .before .before .before .before .before .args in
     refused-seen _ 3 0 _ _ _
-    (sample-size (a .words .now) (a .start) (a .records .now) (a .k) (length (a .slots .now)) (in-count 0 16384 (length (a .records .now)) (search needs) (c .before .before .if1 .left))
+    (sample-size w64 (a .words .now) (a .start) (a .records .now) (a .k) (length (a .slots .now)) (in-count 0 16384 (length (a .records .now)) (search needs) (c .before .before .if1 .left))
     (below-count 1 (length (a .records .now)) (a .k) (c .before .if2 .taken)))
     (c .refused-answer2 .ensures)
 
@@ -53,7 +54,7 @@ refused-answer-requires-3 c κs = search needs
 returns-3 : tie.Need-returns-3
 returns-3 c = let a = c .before .before .before .before .before .before .before .args in
     refused-seen _ 3 0 _ _ _
-    (sample-size (a .words .now) (a .start) (a .records .now) (a .k) (length (a .slots .now)) (in-count 0 16384 (length (a .records .now)) (search needs) (c .before .before .before .if1 .left))
+    (sample-size w64 (a .words .now) (a .start) (a .records .now) (a .k) (length (a .slots .now)) (in-count 0 16384 (length (a .records .now)) (search needs) (c .before .before .before .if1 .left))
     (above-count 1 (length (a .records .now)) (a .k) (c .before .if3 .taken)))
     (c .refused-answer3 .ensures)
 
@@ -63,7 +64,7 @@ refused-answer-requires-4 c κs = search needs
 returns-4 : tie.Need-returns-4
 returns-4 c = let a = c .before .before .before .before .before .before .before .before .args in
     refused-seen _ 6 0 _ _ _
-    (sample-room (a .words .now) (a .start) (a .records .now) (a .k) (length (a .slots .now)) (in-count 0 16384 (length (a .records .now)) (search needs) (search needs))
+    (sample-room w64 (a .words .now) (a .start) (a .records .now) (a .k) (length (a .slots .now)) (in-count 0 16384 (length (a .records .now)) (search needs) (search needs))
     (in-count 1 (length (a .records .now)) (a .k) (search needs) (search needs)) (lt-ltb _ _ (c .before .if4 .taken)))
     (c .refused-answer4 .ensures)
 
@@ -73,7 +74,7 @@ refused-answer-requires-5 c κs = search needs
 returns-5 : tie.Need-returns-5
 returns-5 c = let a = c .before .before .before .before .before .before .before .before .before .args in
     refused-seen _ 9 0 _ _ _
-    (sample-start (a .words .now) (a .start) (a .records .now) (a .k) (length (a .slots .now)) (in-count 0 16384 (length (a .records .now)) (search needs) (search needs))
+    (sample-start w64 (a .words .now) (a .start) (a .records .now) (a .k) (length (a .slots .now)) (in-count 0 16384 (length (a .records .now)) (search needs) (search needs))
     (in-count 1 (length (a .records .now)) (a .k) (search needs) (search needs)) (le-ltb _ _ (c .before .before .if4 .left)) (c .before .if5 .taken))
     (c .refused-answer5 .ensures)
 

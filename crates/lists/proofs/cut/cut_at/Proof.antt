@@ -1,4 +1,4 @@
--- `rolls::cut::cut_at` meets its contract. The loop's invariant: the bounds from `at` up to `end` have joined one batch (Cutting); it
+-- `lists::cut::cut_at` meets its contract. The loop's invariant: the bounds from `at` up to `end` have joined one batch (Cutting); it
 -- ends with the list, at sixteen bounds, or where the product passes the limit. The measure is what is left of the list.
 -- Assumes nothing.
 use native.Mathlib.Omega.{arith}
@@ -7,6 +7,7 @@ use mathlib.Core.Path.{_∙_, sym}
 use Prim.Native.Nat.{_-_, _*_, _^_}
 use borrow.Author.Needs.{needs}
 use lib.ListN.{length, getD}
+use Rattle.rules.specs.Width.{w64}
 use Rattle.lists.proofs.Cutting.{Cutting, cut-first, cut-turn, cut-list-ends, cut-full, cut-passes, cut-found}
 use Rattle.rules.proofs.Products.{zero-nowhere}
 use Rattle.lists.proofs.cut.cut_at.Statement.{statement}
@@ -59,15 +60,15 @@ loop-again c = let b = c .before .before .before .before .before in
     cut-turn _ _ _ _ _ (b .loop .inv) (search needs) (search needs) f
 
 returns : tie.Need-returns Inv-loop μ-loop
-returns c = cut-found _ _ _ _ (c .before .loop .inv) (cut-list-ends _ _ _ _ _ (c .before .loop .inv) (search needs))
+returns c = cut-found w64 _ _ _ _ (c .before .loop .inv) (cut-list-ends _ _ _ _ _ (c .before .loop .inv) (search needs))
 
 returns-2 : tie.Need-returns-2 Inv-loop μ-loop
-returns-2 c = let v = c .before .before .before .loop .inv in cut-found _ _ _ _ v (cut-full _ _ _ _ _ v (search needs) (search needs))
+returns-2 c = let v = c .before .before .before .loop .inv in cut-found w64 _ _ _ _ v (cut-full _ _ _ _ _ v (search needs) (search needs))
 
 returns-3 : tie.Need-returns-3 Inv-loop μ-loop
 returns-3 c = let v = c .before .before .before .before .before .loop .inv in
     let f = sym (c .before .within .ensures) ∙ not-true (c .before .within .result) (c .if2 .taken) in
-    cut-found _ _ _ _ v (cut-passes _ _ _ _ _ v (search needs) f)
+    cut-found w64 _ _ _ _ v (cut-passes _ _ _ _ _ v (search needs) f)
 
 pub cut-at-spec : {M : Type 1} → statement M
 cut-at-spec =

@@ -1,7 +1,8 @@
--- `rolls::list::roll_list` meets its contract, refusal by refusal (OneList); a dry run tells whether the words suffice before anything
+-- `lists::list::roll_list` meets its contract, refusal by refusal (OneList); a dry run tells whether the words suffice before anything
 -- is written. Assumes nothing.
 use Rattle.rules.specs.Run.{run, trace, rollsOf}
 use Rattle.rules.specs.Cut.{cut}
+use Rattle.rules.specs.Width.{w64}
 use mathlib.Core.Path.{_∙_, sym, ap}
 use mathlib.Core.List.{_++_}
 use Prim.Native.Nat.{ℕ, _^_}
@@ -19,7 +20,7 @@ refused-answer-requires c κs = search needs
 
 returns : tie.Need-returns
 returns c = let a = c .before .before .before .before .before .args in
-    refused-seen _ 2 0 _ _ _ (list-count (a .words .now) (a .start) (a .bounds .now) (length (a .rolls .now)) (above-count 0 4096 (length (a .bounds .now)) (c .before .if1 .taken))) (c .refused-answer .ensures)
+    refused-seen _ 2 0 _ _ _ (list-count w64 (a .words .now) (a .start) (a .bounds .now) (length (a .rolls .now)) (above-count 0 4096 (length (a .bounds .now)) (c .before .if1 .taken))) (c .refused-answer .ensures)
 
 has-zero-requires : tie.Need-has-zero-requires
 has-zero-requires c κs = search needs
@@ -29,7 +30,7 @@ refused-answer-requires-2 c κs = search needs
 
 returns-2 : tie.Need-returns-2
 returns-2 c = let a = c .before .before .before .before .before .before .before .args in
-    refused-seen _ 4 0 _ _ _ (list-zero (a .words .now) (a .start) (a .bounds .now) (length (a .rolls .now)) (in-count 0 4096 (length (a .bounds .now)) (search needs) (search needs))
+    refused-seen _ 4 0 _ _ _ (list-zero w64 (a .words .now) (a .start) (a .bounds .now) (length (a .rolls .now)) (in-count 0 4096 (length (a .bounds .now)) (search needs) (search needs))
     (sym (c .before .before .has-zero .ensures) ∙ c .before .if2 .taken)) (c .refused-answer2 .ensures)
 
 refused-answer-requires-3 : tie.Need-refused-answer-requires-3
@@ -37,7 +38,7 @@ refused-answer-requires-3 c κs = search needs
 
 returns-3 : tie.Need-returns-3
 returns-3 c = let a = c .before .before .before .before .before .before .before .before .args in
-    refused-seen _ 6 0 _ _ _ (list-room (a .words .now) (a .start) (a .bounds .now) (length (a .rolls .now)) (in-count 0 4096 (length (a .bounds .now)) (search needs) (search needs))
+    refused-seen _ 6 0 _ _ _ (list-room w64 (a .words .now) (a .start) (a .bounds .now) (length (a .rolls .now)) (in-count 0 4096 (length (a .bounds .now)) (search needs) (search needs))
     (sym (c .before .before .before .has-zero .ensures) ∙ c .before .before .if2 .left) (lt-ltb _ _ (c .before .if3 .taken))) (c .refused-answer3 .ensures)
 
 refused-answer-requires-4 : tie.Need-refused-answer-requires-4
@@ -45,7 +46,7 @@ refused-answer-requires-4 c κs = search needs
 
 returns-4 : tie.Need-returns-4
 returns-4 c = let a = c .before .before .before .before .before .before .before .before .before .args in
-    refused-seen _ 9 0 _ _ _ (list-start (a .words .now) (a .start) (a .bounds .now) (length (a .rolls .now)) (in-count 0 4096 (length (a .bounds .now)) (search needs) (search needs))
+    refused-seen _ 9 0 _ _ _ (list-start w64 (a .words .now) (a .start) (a .bounds .now) (length (a .rolls .now)) (in-count 0 4096 (length (a .bounds .now)) (search needs) (search needs))
     (sym (c .before .before .before .before .has-zero .ensures) ∙ c .before .before .before .if2 .left) (le-ltb _ _ (c .before .before .if3 .left)) (c .before .if4 .taken)) (c .refused-answer4 .ensures)
 
 supply-list-requires : tie.Need-supply-list-requires
@@ -64,6 +65,9 @@ write-list-requires c κs = let e = c .before .before .before .before .before in
           (sym (c .before .before .before .before .supply-list .ensures) ∙ c .before .before .next .given .1) .enough,
     )
 
+done-answer-requires : tie.Need-done-answer-requires
+done-answer-requires c κs = search needs
+
 enum-known-batch : tie.Need-enum-known-batch
 enum-known-batch c = search needs
 
@@ -74,22 +78,23 @@ same-length : tie.Need-same-length
 same-length c = search needs
 
 returns-5 : tie.Need-returns-5
-returns-5 c = let n = c .before .before .before .before .before in
+returns-5 c = let n = c .before .before .before .before .before .before in
     let e = n .before .before .before in
     let a = e .before .before .before .before .before .before .before .before .args in
     let r = run 64 (cut (2 ^ 56) (a .bounds .now)) (a .words .now) (a .start) in
     let s = sym (n .before .before .supply-list .ensures) ∙ n .next .given .1 in
     let len = list-length 64 (2 ^ 56) (a .bounds .now) (a .words .now) (a .start) (supplied-enough (a .start) r _ _ s .enough) in
-    done-seen _ _ _ _ (a .start) (a .rolls .now) _
-    (list-done (a .words .now) (a .start) (a .bounds .now) (length (a .rolls .now)) (in-count 0 4096 (length (a .bounds .now)) (search needs) (search needs))
-    (sym (e .before .before .before .has-zero .ensures) ∙ e .before .before .if2 .left) (le-ltb _ _ (e .before .if3 .left)) (e .if4 .left) _ _ s)
-    (c .before .before .write-list .ensures ∙ ap (λ (k : ℕ). rollsOf 64 (cut (2 ^ 56) (a .bounds .now)) (trace r) ++ drop k (a .rolls .now)) (sym len))
+    done-seen _ _ (a .start) r _ _ (a .rolls .now) _ _
+    (list-done w64 (a .words .now) (a .start) (a .bounds .now) (length (a .rolls .now)) (in-count 0 4096 (length (a .bounds .now)) (search needs) (search needs))
+    (sym (e .before .before .before .has-zero .ensures) ∙ e .before .before .if2 .left) (le-ltb _ _ (e .before .if3 .left)) (e .if4 .left) _ _ s) s
+    (c .done-answer .ensures)
+    (c .before .before .before .write-list .ensures ∙ ap (λ (k : ℕ). rollsOf 64 (cut (2 ^ 56) (a .bounds .now)) (trace r) ++ drop k (a .rolls .now)) (sym len))
 
 returns-6 : tie.Need-returns-6
 returns-6 c = let b = c .before .before in
     let e = b .before .before .before in
     let a = e .before .before .before .before .before .before .before .before .args in
-    refused-seen _ 10 _ _ _ _ (list-short (a .words .now) (a .start) (a .bounds .now) (length (a .rolls .now)) (in-count 0 4096 (length (a .bounds .now)) (search needs) (search needs))
+    refused-seen _ 10 _ _ _ _ (list-short w64 (a .words .now) (a .start) (a .bounds .now) (length (a .rolls .now)) (in-count 0 4096 (length (a .bounds .now)) (search needs) (search needs))
     (sym (e .before .before .before .has-zero .ensures) ∙ e .before .before .if2 .left) (le-ltb _ _ (e .before .if3 .left)) (e .if4 .left) _
     (sym (b .before .before .supply-list .ensures) ∙ b .batch .given .1)) (c .refused-answer5 .ensures)
 
@@ -109,6 +114,7 @@ roll-list-spec =
     supply-list-requires
     enum-known-next
     write-list-requires
+    done-answer-requires
     enum-known-batch
     refused-answer-requires-5
     same-length

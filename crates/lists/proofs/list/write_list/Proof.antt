@@ -1,4 +1,4 @@
--- `rolls::list::write_list` meets its contract. The loop's invariant: the rolls of the bounds before `at` are written, and the rest of
+-- `lists::list::write_list` meets its contract. The loop's invariant: the rolls of the bounds before `at` are written, and the rest of
 -- the run suffices (Filling); so no word is missing. The measure is the bounds that are left. Assumes nothing.
 use lib.ListN.{length-take, length-drop}
 use mathlib.Core.Path.{_∙_, sym}
@@ -6,26 +6,23 @@ use Prim.Native.Nat.{_-_}
 use native.Mathlib.Omega.{arith}
 use borrow.Author.Needs.{needs}
 use lib.ListN.{length}
-use Rattle.lists.proofs.Listing.{cut-pos, cut-place}
+use Rattle.rules.specs.Width.{w64}
+use Rattle.lists.proofs.Listing.{cut-place}
 use Rattle.lists.proofs.Filling.{Filling, fill-none, fill-never, fill-turn, fill-done}
 use Rattle.lists.proofs.list.write_list.Statement.{statement}
 use Rattle.lists.proofs.list.write_list.Tie as tie
 
 abbrev Inv-loop : tie.InvT-loop
-Inv-loop words start bounds rolls₀ next₀ at₀ rolls next at = Filling words start bounds rolls₀ rolls next at
+Inv-loop words start bounds rolls₀ next₀ at₀ rolls next at = Filling w64 words start bounds rolls₀ rolls next at
 
 abbrev μ-loop : tie.MeasureT-loop
 μ-loop words start bounds rolls₀ next₀ at₀ rolls next at = length bounds - at
 
 loop-holds : tie.Need-loop-holds Inv-loop μ-loop
-loop-holds c = let s = c .before .before .before in fill-none _ _ _ _ (s .pre .0) (s .pre .3)
+loop-holds c = let s = c .before .before .before in fill-none w64 _ _ _ _ (s .pre .0) (s .pre .3)
 
 cut-at-requires : tie.Need-cut-at-requires Inv-loop μ-loop
 cut-at-requires c κs = search needs
-
-threshold-of-requires : tie.Need-threshold-of-requires Inv-loop μ-loop
-threshold-of-requires c κs = let b = c .before .before in
-    cut-pos _ _ (search needs) (b .before .before .before .before .pre .1) _ (c .cut-at .ensures)
 
 find-word-requires : tie.Need-find-word-requires Inv-loop μ-loop
 find-word-requires c κs = search needs
@@ -37,19 +34,19 @@ mul-write-rolls : tie.Need-mul-write-rolls Inv-loop μ-loop
 mul-write-rolls c = search needs
 
 sub-write-rolls : tie.Need-sub-write-rolls Inv-loop μ-loop
-sub-write-rolls c = let k = c .before .before .before .before .before in
+sub-write-rolls c = let k = c .before .before .before .before in
     let b = k .before .before in
-    omega (arith, cut-place _ (b .loop .at) (search needs) (b .before .before .before .before .pre .1) (k .cut-at .result) (k .cut-at .ensures))
+    omega (arith, cut-place w64 _ (b .loop .at) (search needs) (b .before .before .before .before .pre .1) (k .cut-at .result) (k .cut-at .ensures))
 
 part-write-rolls-start : tie.Need-part-write-rolls-start Inv-loop μ-loop
-part-write-rolls-start c = let k = c .before .before .before .before .before in
+part-write-rolls-start c = let k = c .before .before .before .before in
     let b = k .before .before in
-    omega (arith, cut-place _ (b .loop .at) (search needs) (b .before .before .before .before .pre .1) (k .cut-at .result) (k .cut-at .ensures))
+    omega (arith, cut-place w64 _ (b .loop .at) (search needs) (b .before .before .before .before .pre .1) (k .cut-at .result) (k .cut-at .ensures))
 
 part-write-rolls-end : tie.Need-part-write-rolls-end Inv-loop μ-loop
-part-write-rolls-end c = let k = c .before .before .before .before .before in
+part-write-rolls-end c = let k = c .before .before .before .before in
     let b = k .before .before in
-    omega (arith, cut-place _ (b .loop .at) (search needs) (b .before .before .before .before .pre .1) (k .cut-at .result) (k .cut-at .ensures))
+    omega (arith, cut-place w64 _ (b .loop .at) (search needs) (b .before .before .before .before .pre .1) (k .cut-at .result) (k .cut-at .ensures))
 
 mul-write-rolls-2 : tie.Need-mul-write-rolls-2 Inv-loop μ-loop
 mul-write-rolls-2 c = search needs
@@ -64,27 +61,25 @@ part-write-rolls-end-2 : tie.Need-part-write-rolls-end-2 Inv-loop μ-loop
 part-write-rolls-end-2 c = search needs
 
 write-rolls-requires : tie.Need-write-rolls-requires Inv-loop μ-loop
-write-rolls-requires c κs = let k = c .before .before .before .before .before .before .before in
+write-rolls-requires c κs = let k = c .before .before .before .before .before .before in
     let b = k .before .before in
     let s = b .before .before .before .before in
-    simp (length-take, length-drop) (omega (arith, cut-place _ (b .loop .at) (search needs) (s .pre .1) (k .cut-at .result) (k .cut-at .ensures), s .pre .2))
+    simp (length-take, length-drop) (omega (arith, cut-place w64 _ (b .loop .at) (search needs) (s .pre .1) (k .cut-at .result) (k .cut-at .ensures), s .pre .2))
 
 loop-again : tie.Need-loop-again Inv-loop μ-loop
-loop-again c = let k = c .before .before .before .before .before .before .before .before .before .before in
+loop-again c = let k = c .before .before .before .before .before .before .before .before .before in
     let b = k .before .before in
     let s = b .before .before .before .before in
     let w = c .before .before .before .before .before .before in
-    fill-turn _ _ _ _ _ _ _ (b .loop .inv) (search needs) (s .pre .1) (k .cut-at .result) (k .cut-at .ensures) (search needs)
-    _ (c .before .before .before .before .before .before .before .before .before .threshold-of .ensures)
-    _ _ _ (sym (w .before .before .find-word .ensures) ∙ w .word .given .1) (s .pre .2) _ (c .before .before .write-rolls .ensures)
+    fill-turn w64 _ _ _ _ _ _ _ (b .loop .inv) (search needs) (s .pre .1) (k .cut-at .result) (k .cut-at .ensures) _ _ _ (sym (w .before .before .find-word .ensures) ∙ w .word .given .1) (s .pre .2) _ (c .before .before .write-rolls .ensures)
 
 add-next : tie.Need-add-next Inv-loop μ-loop
 add-next c = let v = loop-again c in omega (arith, v .0)
 
 loop-less : tie.Need-loop-less Inv-loop μ-loop
-loop-less c = let k = c .before .before .before .before .before .before .before .before .before .before in
+loop-less c = let k = c .before .before .before .before .before .before .before .before .before in
     let b = k .before .before in
-    omega (arith, cut-place _ (b .loop .at) (search needs) (b .before .before .before .before .pre .1) (k .cut-at .result) (k .cut-at .ensures))
+    omega (arith, cut-place w64 _ (b .loop .at) (search needs) (b .before .before .before .before .pre .1) (k .cut-at .result) (k .cut-at .ensures))
 
 enum-told : tie.Need-enum-told Inv-loop μ-loop
 enum-told c = search needs
@@ -93,16 +88,16 @@ same-length : tie.Need-same-length Inv-loop μ-loop
 same-length c = search needs
 
 returns : tie.Need-returns Inv-loop μ-loop
-returns c = let k = c .before .before .before .before in
+returns c = let k = c .before .before .before in
     let b = k .before .before in
-    absurd (fill-never _ _ _ _ _ _ _ (b .loop .inv) (search needs) (b .before .before .before .before .pre .1) (k .cut-at .result) (k .cut-at .ensures) (search needs)
-    _ (c .before .before .before .threshold-of .ensures) (sym (c .before .before .find-word .ensures) ∙ c .enum-told .given .1))
+    absurd (fill-never w64 _ _ _ _ _ _ _ (b .loop .inv) (search needs) (b .before .before .before .before .pre .1) (k .cut-at .result) (k .cut-at .ensures)
+    (sym (c .before .before .find-word .ensures) ∙ c .enum-told .given .1))
 
 same-length-2 : tie.Need-same-length-2 Inv-loop μ-loop
 same-length-2 c = search needs
 
 returns-2 : tie.Need-returns-2 Inv-loop μ-loop
-returns-2 c = fill-done _ _ _ _ _ _ _ (c .before .loop .inv) (search needs)
+returns-2 c = fill-done w64 _ _ _ _ _ _ _ (c .before .loop .inv) (search needs)
 
 pub write-list-spec : {M : Type 1} → statement M
 write-list-spec =
@@ -112,7 +107,6 @@ write-list-spec =
     μ-loop
     loop-holds
     cut-at-requires
-    threshold-of-requires
     find-word-requires
     enum-known-word
     mul-write-rolls

@@ -1,4 +1,4 @@
--- `rolls::supply::supply_list` meets its contract. The loop's invariant: the batches before the bound at `at` have their words, and
+-- `lists::supply::supply_list` meets its contract. The loop's invariant: the batches before the bound at `at` have their words, and
 -- what is left of the plan is that of the bounds from there on (Supplying). The measure is the bounds that are left. Assumes nothing.
 use mathlib.Core.Path.{_∙_, sym}
 use Prim.Native.Nat.{_-_, _^_, _<_, _≤_}
@@ -6,7 +6,8 @@ use native.Mathlib.Omega.{arith}
 use borrow.Author.Needs.{needs}
 use lib.ListN.{length, drop}
 use Rattle.rules.specs.Cut.{cut}
-use Rattle.lists.proofs.Listing.{cut-pos, cut-place, cut-next, cut-find, batch-none}
+use Rattle.rules.specs.Width.{w64}
+use Rattle.lists.proofs.Listing.{cut-place, cut-next, cut-find, batch-none}
 use Rattle.rolls.proofs.Supplying.{Supplying, supply-none, supply-hit, supply-short, supply-done}
 use Rattle.lists.proofs.supply.supply_list.Statement.{statement}
 use Rattle.lists.proofs.supply.supply_list.Tie as tie
@@ -24,10 +25,6 @@ loop-holds c = (omega arith, omega arith, supply-none 64 _ _ _ (c .before .befor
 cut-at-requires : tie.Need-cut-at-requires Inv-loop μ-loop
 cut-at-requires c κs = search needs
 
-threshold-of-requires : tie.Need-threshold-of-requires Inv-loop μ-loop
-threshold-of-requires c κs = let b = c .before .before in
-    cut-pos _ _ (search needs) (b .before .before .before .pre .1) _ (c .cut-at .ensures)
-
 find-word-requires : tie.Need-find-word-requires Inv-loop μ-loop
 find-word-requires c κs = search needs
 
@@ -36,15 +33,15 @@ enum-known-place c = search needs
 
 loop-again : tie.Need-loop-again Inv-loop μ-loop
 loop-again c =
-    let k = c .before .before .before .before .before in
+    let k = c .before .before .before .before in
     let b = k .before .before in
     let h : b .loop .at < length (b .before .before .before .args .bounds .now) = search needs in
     let z = b .before .before .before .pre .1 in
-    let p = cut-place _ (b .loop .at) h z (k .cut-at .result) (k .cut-at .ensures) in (
+    let p = cut-place w64 _ (b .loop .at) h z (k .cut-at .result) (k .cut-at .ensures) in (
       p .1,
       omega (arith, p .0, b .loop .inv .1),
-      supply-hit 64 _ _ _ _ _ _ _ (b .loop .inv .2) _ _ (cut-next _ _ h z _ (k .cut-at .ensures)) _
-          (cut-find _ _ h z _ (k .cut-at .ensures) _ (search needs) (c .before .before .before .before .threshold-of .ensures) _ _)
+      supply-hit 64 _ _ _ _ _ _ _ (b .loop .inv .2) _ _ (cut-next w64 _ _ h z _ (k .cut-at .ensures)) _
+          (cut-find w64 _ _ h z _ (k .cut-at .ensures) _ _)
           _ _ _ (sym (c .before .before .before .find-word .ensures) ∙ c .before .place .given .1),
     )
 
@@ -58,28 +55,28 @@ add-batch : tie.Need-add-batch Inv-loop μ-loop
 add-batch c = search needs
 
 loop-less : tie.Need-loop-less Inv-loop μ-loop
-loop-less c = let k = c .before .before .before .before .before in
+loop-less c = let k = c .before .before .before .before in
     let b = k .before .before in
-    omega (arith, cut-place _ (b .loop .at) (search needs) (b .before .before .before .pre .1) (k .cut-at .result) (k .cut-at .ensures))
+    omega (arith, cut-place w64 _ (b .loop .at) (search needs) (b .before .before .before .pre .1) (k .cut-at .result) (k .cut-at .ensures))
 
 enum-told : tie.Need-enum-told Inv-loop μ-loop
 enum-told c = search needs
 
 returns : tie.Need-returns Inv-loop μ-loop
 returns c =
-    let k = c .before .before .before .before in
+    let k = c .before .before .before in
     let b = k .before .before in
     let h : b .loop .at < length (b .before .before .before .args .bounds .now) = search needs in
     let z = b .before .before .before .pre .1 in
-    supply-short 64 _ _ _ _ _ _ _ (b .loop .inv .2) _ _ (cut-next _ _ h z _ (k .cut-at .ensures)) _
-    (cut-find _ _ h z _ (k .cut-at .ensures) _ (search needs) (c .before .before .before .threshold-of .ensures) _ _)
+    supply-short 64 _ _ _ _ _ _ _ (b .loop .inv .2) _ _ (cut-next w64 _ _ h z _ (k .cut-at .ensures)) _
+    (cut-find w64 _ _ h z _ (k .cut-at .ensures) _ _)
     (sym (c .before .before .find-word .ensures) ∙ c .enum-told .given .1)
 
 returns-2 : tie.Need-returns-2 Inv-loop μ-loop
 returns-2 c =
     let b = c .before in
     let h : length (b .before .before .before .args .bounds .now) ≤ b .loop .at = search needs in
-    supply-done 64 _ _ _ _ _ _ _ (b .loop .inv .2) (batch-none _ _ h)
+    supply-done 64 _ _ _ _ _ _ _ (b .loop .inv .2) (batch-none w64 _ _ h)
 
 pub supply-list-spec : {M : Type 1} → statement M
 supply-list-spec =
@@ -89,7 +86,6 @@ supply-list-spec =
     μ-loop
     loop-holds
     cut-at-requires
-    threshold-of-requires
     find-word-requires
     enum-known-place
     add-next

@@ -1,4 +1,4 @@
--- `draws::order::mark_places` meets its contract. The loop's invariant: the numbers before place i are below n, different and marked,
+-- `orders::order::mark_places` meets its contract. The loop's invariant: the numbers before place i are below n, different and marked,
 -- and no other number is marked (Marking). A number that is too large or marked already stands in no order; a list without one is an
 -- order. The measure is what is left of the list. Assumes nothing.
 use mathlib.Core.Path.{_≡_, refl, sym}

@@ -1,4 +1,4 @@
--- `draws::order::rolls_behind` meets its contract. Each way out is one refusal of the definition, or the last one, where none applies:
+-- `orders::order::rolls_behind` meets its contract. Each way out is one refusal of the definition, or the last one, where none applies:
 -- the test is the definition's, and the rolls written are those that it looks up. Assumes nothing.
 use mathlib.Core.Path.{_∙_, sym, ap}
 use mathlib.Core.List.{List, _++_}
@@ -6,7 +6,7 @@ use Prim.Native.Nat.{ℕ}
 use lib.ListN.{length, drop, length-replicate}
 use borrow.Author.Tests.{not-true, not-false}
 use borrow.Author.Needs.{needs}
-use Rattle.answers.proofs.Deciding.{refused-seen, done-seen}
+use Rattle.answers.proofs.Deciding.{refused-seen, none-seen}
 use Rattle.rules.specs.Reservoir.{countup}
 use Rattle.rules.specs.Order.{rollsInto}
 use Rattle.rules.proofs.Orders.{rolls-into-length}
@@ -61,17 +61,22 @@ write-behind-requires c κs = let e = c .before .before .before .before .before 
       (k .ensures .1 t, d .ensures .0),
     )
 
+done-answer-requires : tie.Need-done-answer-requires
+done-answer-requires c κs = search needs
+
 same-length : tie.Need-same-length
 same-length c = search needs
 
 returns-4 : tie.Need-returns-4
-returns-4 c = let e = c .before .before .before .before .before .before .before .before .before .before in
+returns-4 c = let written = c .before in
+    let e = written .before .before .before .before .before .before .before .before .before .before in
     let a = e .before .before .before .before .before .before .before .before .args in
     let k = e .before .before .mark-places in
     let all = rollsInto (length (a .order .now)) (countup (length (a .order .now)) 0) (a .order .now) in
-    done-seen _ _ _ _ 0 (a .rolls .now) _
+    none-seen _ _ (a .rolls .now) _ _
     (order-done (a .order .now) (length (a .rolls .now)) (search needs) (search needs) (sym (k .ensures .0) ∙ not-false (k .result) (e .if3 .left)))
-    (c .before .before .before .write-behind .ensures ∙ ap (λ (l : List ℕ). all ++ l) (c .before .before .before .before .before .before .before .before .write-countdown .ensures .1)
+    (c .done-answer .ensures)
+    (written .before .before .before .write-behind .ensures ∙ ap (λ (l : List ℕ). all ++ l) (written .before .before .before .before .before .before .before .before .write-countdown .ensures .1)
     ∙ ap (λ (n : ℕ). all ++ drop n (a .rolls .now)) (sym (rolls-into-length _ _ _)))
 
 pub rolls-behind-spec : {M : Type 1} → statement M
@@ -90,5 +95,6 @@ rolls-behind-spec =
     write-countdown-requires
     slice-aggregate-write-behind
     write-behind-requires
+    done-answer-requires
     same-length
     returns-4)

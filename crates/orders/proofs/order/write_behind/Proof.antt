@@ -1,4 +1,4 @@
--- `draws::order::write_behind` meets its contract. The loop's invariant: with m records still to place the marks are the inverse of the
+-- `orders::order::write_behind` meets its contract. The loop's invariant: with m records still to place the marks are the inverse of the
 -- list as it stands, and the lent list holds the rolls so far, then that list from place m - 1 down to 1 (Inverting). The measure is m.
 -- Assumes nothing.
 use mathlib.Core.Path.{_≡_, refl}

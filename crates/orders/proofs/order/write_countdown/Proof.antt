@@ -1,4 +1,4 @@
--- `draws::order::write_countdown` meets its contract. The loop's invariant: the first i of n - 1, .., 1 are written (Written). The
+-- `orders::order::write_countdown` meets its contract. The loop's invariant: the first i of n - 1, .., 1 are written (Written). The
 -- measure is n less i. Assumes nothing.
 use mathlib.Core.Path.{sym}
 use Prim.Native.Nat.{_-_, _<_}

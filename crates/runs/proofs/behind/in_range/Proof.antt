@@ -1,4 +1,4 @@
--- `rolls::behind::in_range` meets its contract. The loop's invariant: what is left is in range exactly where the whole is. The measure
+-- `runs::behind::in_range` meets its contract. The loop's invariant: what is left is in range exactly where the whole is. The measure
 -- is what is left. Assumes nothing.
 use mathlib.Core.Path.{_≡_, _∙_, sym}
 use Prim.Native.Nat.{_-_, _≤_}

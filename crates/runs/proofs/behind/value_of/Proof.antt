@@ -1,4 +1,4 @@
--- `rolls::behind::value_of` meets its contract. The loop's invariant: a is the value of the rolls read so far (Reading); nothing on the
+-- `runs::behind::value_of` meets its contract. The loop's invariant: a is the value of the rolls read so far (Reading); nothing on the
 -- way passes the value of all. The measure is the rolls that are left. Assumes nothing.
 use Prim.Native.Nat.{_-_}
 use native.Mathlib.Omega.{arith}

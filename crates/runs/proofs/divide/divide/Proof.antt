@@ -1,4 +1,4 @@
--- `arithmetic::divide::divide` meets its contract. The loop's invariant: the bits of the dividend that are passed, divided by b, are
+-- `runs::divide::divide` meets its contract. The loop's invariant: the bits of the dividend that are passed, divided by b, are
 -- the quotient and the remainder so far (Dividing). The measure is the bits that are left. Assumes nothing.
 use Rattle.runs.proofs.LongDivision.{Dividing, divide-fits, divide-below, divide-reached, divide-doubled, divide-none, divide-done}
 use native.Mathlib.Nat.{le-add-right, lt-of-le-of-lt}

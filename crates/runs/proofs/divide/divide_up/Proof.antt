@@ -1,4 +1,4 @@
--- `arithmetic::divide::divide_up` meets its contract: the quotient where the remainder is 0, and one more where it is not.
+-- `runs::divide::divide_up` meets its contract: the quotient where the remainder is 0, and one more where it is not.
 -- Assumes nothing.
 use mathlib.Core.Path.{_∙_, sym, ap}
 use Prim.Native.Nat.{ℕ, _+_, _*_, _^_}

@@ -1,4 +1,4 @@
--- `draws::shuffle::exchange_records` meets its contract: two stores. Assumes nothing.
+-- `shuffles::shuffle::exchange_records` meets its contract: two stores. Assumes nothing.
 use mathlib.Core.Path.{refl}
 use Rattle.rules.specs.Shuffle.{exchange}
 use borrow.Author.Needs.{needs}

@@ -1,16 +1,18 @@
--- `draws::shuffle::place_all` meets its contract. The loop's invariant: with m records still to place the rest of the run suffices, and
+-- `shuffles::shuffle::place_all` meets its contract. The loop's invariant: with m records still to place the rest of the run suffices, and
 -- its rolls bring the list as it stands to what the whole shuffle gives (Shuffling); so no word is missing. The measure is m.
 -- Assumes nothing.
 use mathlib.Core.Path.{_∙_, sym}
 use Prim.Native.Nat.{_≤_}
 use native.Mathlib.Omega.{arith}
 use borrow.Author.Needs.{needs}
+use Rattle.rules.specs.Width.{w64}
+use Rattle.rules.proofs.Widths.{good64}
 use Rattle.shuffles.proofs.Shuffling.{Shuffling, shuffling-none, shuffling-turn, shuffling-never, shuffling-done, batch-less, batch-fits}
 use Rattle.shuffles.proofs.shuffle.place_all.Statement.{statement}
 use Rattle.shuffles.proofs.shuffle.place_all.Tie as tie
 
 abbrev Inv-loop : tie.InvT-loop
-Inv-loop words start records₀ next₀ m₀ records next m = Shuffling words start records₀ records next m
+Inv-loop words start records₀ next₀ m₀ records next m = Shuffling w64 words start records₀ records next m
 
 abbrev μ-loop : tie.MeasureT-loop
 μ-loop words start records₀ next₀ m₀ records next m = m
@@ -19,21 +21,16 @@ few : (b : tie.At-loop Inv-loop μ-loop) → b .loop .m ≤ 16384
 few b = omega (arith, b .loop .inv .1, b .before .before .before .pre .1)
 
 loop-holds : tie.Need-loop-holds Inv-loop μ-loop
-loop-holds c = let s = c .before .before in shuffling-none (s .args .words .now) (s .args .start) (s .args .records .now) (s .pre .0) (s .pre .2)
+loop-holds c = let s = c .before .before in shuffling-none w64 (s .args .words .now) (s .args .start) (s .args .records .now) (s .pre .0) (s .pre .2)
 
 batch-size-requires : tie.Need-batch-size-requires Inv-loop μ-loop
 batch-size-requires c κs = search needs
 
 product-down-requires : tie.Need-product-down-requires Inv-loop μ-loop
 product-down-requires c κs = let b = c .before .before in (
-  omega (arith, batch-less (b .loop .m) (c .batch-size .result) (c .before .loop-test .taken) (few b) (c .batch-size .ensures)),
-  batch-fits (b .loop .m) (c .batch-size .result) (c .before .loop-test .taken) (few b) (c .batch-size .ensures) .1,
+  omega (arith, batch-less w64 good64 (b .loop .m) (c .batch-size .result) (c .before .loop-test .taken) (few b) (c .batch-size .ensures)),
+  batch-fits w64 good64 (b .loop .m) (c .batch-size .result) (c .before .loop-test .taken) (few b) (c .batch-size .ensures) .1,
 )
-
-threshold-of-requires : tie.Need-threshold-of-requires Inv-loop μ-loop
-threshold-of-requires c κs = let z = c .before in
-    let b = z .before .before in
-    rw (c .product-down .ensures) (batch-fits (b .loop .m) (z .batch-size .result) (z .before .loop-test .taken) (few b) (z .batch-size .ensures) .0)
 
 find-word-requires : tie.Need-find-word-requires Inv-loop μ-loop
 find-word-requires c κs = search needs
@@ -42,31 +39,31 @@ enum-known-word : tie.Need-enum-known-word Inv-loop μ-loop
 enum-known-word c = search needs
 
 place-batch-requires : tie.Need-place-batch-requires Inv-loop μ-loop
-place-batch-requires c κs = let z = c .before .before .before .before .before .before .before in
+place-batch-requires c κs = let z = c .before .before .before .before .before .before in
     let b = z .before .before in
-    (omega (arith, batch-less (b .loop .m) (z .batch-size .result) (z .before .loop-test .taken) (few b) (z .batch-size .ensures)), omega (arith, b .loop .inv .1, b .loop .inv .2))
+    (omega (arith, batch-less w64 good64 (b .loop .m) (z .batch-size .result) (z .before .loop-test .taken) (few b) (z .batch-size .ensures)), omega (arith, b .loop .inv .1, b .loop .inv .2))
 
 loop-again : tie.Need-loop-again Inv-loop μ-loop
 loop-again c = let w = c .before .before .before .before .before in
-    let z = w .before .before .before .before .before in
+    let z = w .before .before .before .before in
     let b = z .before .before in
     let s = b .before .before .before in
-    shuffling-turn (s .args .words .now) (s .args .start) (s .args .records .now) (s .pre .1) _ _ _ (b .loop .inv) (z .before .loop-test .taken) _ (z .batch-size .ensures)
-    _ _ (w .before .before .before .before .product-down .ensures) (w .before .before .before .threshold-of .ensures)
+    shuffling-turn w64 good64 (s .args .words .now) (s .args .start) (s .args .records .now) (s .pre .1) _ _ _ (b .loop .inv) (z .before .loop-test .taken) _ (z .batch-size .ensures)
+    _ (w .before .before .before .product-down .ensures)
     _ _ _ (sym (w .before .before .find-word .ensures) ∙ w .word .given .1) _ (c .before .before .place-batch .ensures)
 
 add-next : tie.Need-add-next Inv-loop μ-loop
 add-next c = let v = loop-again c in omega (arith, v .0)
 
 sub-m : tie.Need-sub-m Inv-loop μ-loop
-sub-m c = let z = c .before .before .before .before .before .before .before .before .before .before in
+sub-m c = let z = c .before .before .before .before .before .before .before .before .before in
     let b = z .before .before in
-    omega (arith, batch-less (b .loop .m) (z .batch-size .result) (z .before .loop-test .taken) (few b) (z .batch-size .ensures))
+    omega (arith, batch-less w64 good64 (b .loop .m) (z .batch-size .result) (z .before .loop-test .taken) (few b) (z .batch-size .ensures))
 
 loop-less : tie.Need-loop-less Inv-loop μ-loop
-loop-less c = let z = c .before .before .before .before .before .before .before .before .before .before in
+loop-less c = let z = c .before .before .before .before .before .before .before .before .before in
     let b = z .before .before in
-    omega (arith, batch-less (b .loop .m) (z .batch-size .result) (z .before .loop-test .taken) (few b) (z .batch-size .ensures))
+    omega (arith, batch-less w64 good64 (b .loop .m) (z .batch-size .result) (z .before .loop-test .taken) (few b) (z .batch-size .ensures))
 
 enum-told : tie.Need-enum-told Inv-loop μ-loop
 enum-told c = search needs
@@ -75,11 +72,11 @@ same-length : tie.Need-same-length Inv-loop μ-loop
 same-length c = search needs
 
 returns : tie.Need-returns Inv-loop μ-loop
-returns c = let z = c .before .before .before .before .before in
+returns c = let z = c .before .before .before .before in
     let b = z .before .before in
     let s = b .before .before .before in
-    absurd (shuffling-never (s .args .words .now) (s .args .start) (s .args .records .now) (s .pre .1) _ _ _ (b .loop .inv) (z .before .loop-test .taken) _ (z .batch-size .ensures)
-    _ _ (c .before .before .before .before .product-down .ensures) (c .before .before .before .threshold-of .ensures)
+    absurd (shuffling-never w64 good64 (s .args .words .now) (s .args .start) (s .args .records .now) (s .pre .1) _ _ _ (b .loop .inv) (z .before .loop-test .taken) _ (z .batch-size .ensures)
+    _ (c .before .before .before .product-down .ensures)
     (sym (c .before .before .find-word .ensures) ∙ c .enum-told .given .1))
 
 same-length-2 : tie.Need-same-length-2 Inv-loop μ-loop
@@ -88,7 +85,7 @@ same-length-2 c = search needs
 returns-2 : tie.Need-returns-2 Inv-loop μ-loop
 returns-2 c =
     let s = c .before .before .before .before in
-    shuffling-done (s .args .words .now) (s .args .start) (s .args .records .now) (s .pre .1) _ _ _ (c .before .loop .inv) (search needs)
+    shuffling-done w64 good64 (s .args .words .now) (s .args .start) (s .args .records .now) (s .pre .1) _ _ _ (c .before .loop .inv) (search needs)
 
 pub place-all-spec : {M : Type 1} → statement M
 place-all-spec =
@@ -99,7 +96,6 @@ place-all-spec =
     loop-holds
     batch-size-requires
     product-down-requires
-    threshold-of-requires
     find-word-requires
     enum-known-word
     place-batch-requires

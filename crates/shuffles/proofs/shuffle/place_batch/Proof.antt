@@ -1,4 +1,4 @@
--- `draws::shuffle::place_batch` meets its contract. The loop's invariant: the rolls of the bounds passed are taken out of the word, one
+-- `shuffles::shuffle::place_batch` meets its contract. The loop's invariant: the rolls of the bounds passed are taken out of the word, one
 -- exchange each (Placing); a roll is below its bound. The measure is the bounds that are left. Assumes nothing.
 use native.Mathlib.Omega.{arith}
 use borrow.Author.Needs.{needs}

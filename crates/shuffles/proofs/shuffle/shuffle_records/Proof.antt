@@ -1,7 +1,7 @@
--- `draws::shuffle::shuffle_records` meets its contract, refusal by refusal (OneShuffle). Assumes nothing.
+-- `shuffles::shuffle::shuffle_records` meets its contract, refusal by refusal (OneShuffle). Assumes nothing.
 use mathlib.Core.Path.{_∙_, sym}
 use lib.ListN.{length}
-use Rattle.rules.specs.Width.{size64}
+use Rattle.rules.specs.Width.{size64, w64}
 use Rattle.rules.specs.Run.{run}
 use Rattle.answers.proofs.Deciding.{in-count, above-count, supplied-enough, refused-seen, done-seen}
 use Rattle.rules.specs.Shuffle.{shufflePlan}
@@ -17,14 +17,14 @@ refused-answer-requires c κs = search needs
 
 returns : tie.Need-returns
 returns c = let a = c .before .before .before .before .args in
-    refused-seen _ 2 0 _ _ _ (shuffle-count (a .words .now) (a .start) (a .records .now) (above-count 0 16384 (length (a .records .now)) (c .before .if1 .taken))) (c .refused-answer .ensures)
+    refused-seen _ 2 0 _ _ _ (shuffle-count w64 (a .words .now) (a .start) (a .records .now) (above-count 0 16384 (length (a .records .now)) (c .before .if1 .taken))) (c .refused-answer .ensures)
 
 refused-answer-requires-2 : tie.Need-refused-answer-requires-2
 refused-answer-requires-2 c κs = search needs
 
 returns-2 : tie.Need-returns-2
 returns-2 c = let a = c .before .before .before .before .before .args in
-    refused-seen _ 9 0 _ _ _ (shuffle-start (a .words .now) (a .start) (a .records .now) (in-count 0 16384 (length (a .records .now)) (search needs) (search needs)) (c .before .if2 .taken)) (c .refused-answer2 .ensures)
+    refused-seen _ 9 0 _ _ _ (shuffle-start w64 (a .words .now) (a .start) (a .records .now) (in-count 0 16384 (length (a .records .now)) (search needs) (search needs)) (c .before .if2 .taken)) (c .refused-answer2 .ensures)
 
 supply-shuffle-requires : tie.Need-supply-shuffle-requires
 supply-shuffle-requires c κs = search needs
@@ -41,6 +41,9 @@ place-all-requires c κs = let e = c .before .before .before .before .before in
           (sym (c .before .before .before .before .supply-shuffle .ensures) ∙ c .before .before .next .given .1) .enough,
     )
 
+done-answer-requires : tie.Need-done-answer-requires
+done-answer-requires c κs = search needs
+
 enum-known-batch : tie.Need-enum-known-batch
 enum-known-batch c = search needs
 
@@ -51,19 +54,20 @@ same-length : tie.Need-same-length
 same-length c = search needs
 
 returns-3 : tie.Need-returns-3
-returns-3 c = let n = c .before .before .before .before .before in
+returns-3 c = let n = c .before .before .before .before .before .before in
     let e = n .before .before .before in
     let a = e .before .before .before .before .args in
-    done-seen _ _ _ _ (a .start) (a .records .now) _
-    (shuffle-done (a .words .now) (a .start) (a .records .now) (in-count 0 16384 (length (a .records .now)) (search needs) (search needs)) (e .if2 .left) _ _
-    (sym (n .before .before .supply-shuffle .ensures) ∙ n .next .given .1))
-    (c .before .before .place-all .ensures ∙ whole-list _ (a .records .now) (length-shuffle (length (a .records .now)) _ (a .records .now)))
+    let s = sym (n .before .before .supply-shuffle .ensures) ∙ n .next .given .1 in
+    done-seen _ _ (a .start) (run 64 (shufflePlan size64 (length (a .records .now))) (a .words .now) (a .start)) _ _ (a .records .now) _ _
+    (shuffle-done w64 (a .words .now) (a .start) (a .records .now) (in-count 0 16384 (length (a .records .now)) (search needs) (search needs)) (e .if2 .left) _ _ s) s
+    (c .done-answer .ensures)
+    (c .before .before .before .place-all .ensures ∙ whole-list _ (a .records .now) (length-shuffle (length (a .records .now)) _ (a .records .now)))
 
 returns-4 : tie.Need-returns-4
 returns-4 c = let b = c .before .before in
     let e = b .before .before .before in
     let a = e .before .before .before .before .args in
-    refused-seen _ 10 _ _ _ _ (shuffle-short (a .words .now) (a .start) (a .records .now) (in-count 0 16384 (length (a .records .now)) (search needs) (search needs)) (e .if2 .left) _
+    refused-seen _ 10 _ _ _ _ (shuffle-short w64 (a .words .now) (a .start) (a .records .now) (in-count 0 16384 (length (a .records .now)) (search needs) (search needs)) (e .if2 .left) _
     (sym (b .before .before .supply-shuffle .ensures) ∙ b .batch .given .1)) (c .refused-answer3 .ensures)
 
 pub shuffle-records-spec : {M : Type 1} → statement M
@@ -77,6 +81,7 @@ shuffle-records-spec =
     supply-shuffle-requires
     enum-known-next
     place-all-requires
+    done-answer-requires
     enum-known-batch
     refused-answer-requires-3
     same-length

@@ -1,4 +1,4 @@
--- `draws::supply::batch_size` meets its contract, range by range. Assumes nothing.
+-- `shuffles::supply::batch_size` meets its contract, range by range. Assumes nothing.
 use borrow.Author.Tests.{le-leb, lt-leb}
 use Rattle.rules.specs.Width.{size64}
 use borrow.Author.Needs.{needs}

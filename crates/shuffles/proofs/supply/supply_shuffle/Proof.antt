@@ -1,18 +1,20 @@
--- `draws::supply::supply_shuffle` meets its contract. The loop's invariant: the batches before the records still to place have their
+-- `shuffles::supply::supply_shuffle` meets its contract. The loop's invariant: the batches before the records still to place have their
 -- words, and what is left of the plan is that of those records (Supplying). The measure is the records still to place. Assumes nothing.
 use mathlib.Core.Path.{_∙_, sym}
 use Prim.Native.Nat.{_+_, _≤_}
 use native.Mathlib.Omega.{arith}
 use borrow.Author.Needs.{needs}
 use Rattle.rolls.proofs.Supplying.{Supplying, supply-none, supply-hit, supply-short, supply-done}
-use Rattle.rules.proofs.ShufflePlans.{sizes64, plan-end}
-use Rattle.shuffles.proofs.Shuffling.{plan64, batch-less, batch-fits, batch-plan, batch-find}
+use Rattle.rules.proofs.ShufflePlans.{plan-end}
+use Rattle.rules.proofs.Widths.{good64}
+use Rattle.rules.specs.Width.{w64}
+use Rattle.shuffles.proofs.Shuffling.{planOf, batch-less, batch-fits, batch-plan, batch-find}
 use Rattle.shuffles.proofs.supply.supply_shuffle.Statement.{statement}
 use Rattle.shuffles.proofs.supply.supply_shuffle.Tie as tie
 
 abbrev Inv-loop : tie.InvT-loop
 Inv-loop words start n next₀ rejected₀ batch₀ m₀ next rejected batch m =
-    (batch + m ≤ n) × Supplying 64 (plan64 n) words start (plan64 m) next rejected batch
+    (batch + m ≤ n) × Supplying 64 (planOf w64 n) words start (planOf w64 m) next rejected batch
 
 abbrev μ-loop : tie.MeasureT-loop
 μ-loop words start n next₀ rejected₀ batch₀ m₀ next rejected batch m = m
@@ -28,14 +30,9 @@ batch-size-requires c κs = search needs
 
 product-down-requires : tie.Need-product-down-requires Inv-loop μ-loop
 product-down-requires c κs = let b = c .before .before in (
-  omega (arith, batch-less (b .loop .m) (c .batch-size .result) (c .before .loop-test .taken) (few b) (c .batch-size .ensures)),
-  batch-fits (b .loop .m) (c .batch-size .result) (c .before .loop-test .taken) (few b) (c .batch-size .ensures) .1,
+  omega (arith, batch-less w64 good64 (b .loop .m) (c .batch-size .result) (c .before .loop-test .taken) (few b) (c .batch-size .ensures)),
+  batch-fits w64 good64 (b .loop .m) (c .batch-size .result) (c .before .loop-test .taken) (few b) (c .batch-size .ensures) .1,
 )
-
-threshold-of-requires : tie.Need-threshold-of-requires Inv-loop μ-loop
-threshold-of-requires c κs = let z = c .before in
-    let b = z .before .before in
-    rw (c .product-down .ensures) (batch-fits (b .loop .m) (z .batch-size .result) (z .before .loop-test .taken) (few b) (z .batch-size .ensures) .0)
 
 find-word-requires : tie.Need-find-word-requires Inv-loop μ-loop
 find-word-requires c κs = search needs
@@ -45,14 +42,13 @@ enum-known-place c = search needs
 
 loop-again : tie.Need-loop-again Inv-loop μ-loop
 loop-again c =
-    let z = c .before .before .before .before .before .before in
+    let z = c .before .before .before .before .before in
     let b = z .before .before in
     let h = z .before .loop-test .taken in
-    let l = batch-less (b .loop .m) (z .batch-size .result) h (few b) (z .batch-size .ensures) in (
+    let l = batch-less w64 good64 (b .loop .m) (z .batch-size .result) h (few b) (z .batch-size .ensures) in (
       omega (arith, l, b .loop .inv .0),
-      supply-hit 64 _ _ _ _ _ _ _ (b .loop .inv .1) _ _ (batch-plan _ _ h (few b) (z .batch-size .ensures)) _
-          (batch-find _ _ h (few b) (z .batch-size .ensures) _ _ (c .before .before .before .before .before .product-down .ensures)
-          (c .before .before .before .before .threshold-of .ensures) _ _)
+      supply-hit 64 _ _ _ _ _ _ _ (b .loop .inv .1) _ _ (batch-plan w64 good64 _ _ h (few b) (z .batch-size .ensures)) _
+          (batch-find w64 good64 _ _ h (few b) (z .batch-size .ensures) _ (c .before .before .before .before .product-down .ensures) _ _)
           _ _ _ (sym (c .before .before .before .find-word .ensures) ∙ c .before .place .given .1),
     )
 
@@ -66,33 +62,32 @@ add-batch : tie.Need-add-batch Inv-loop μ-loop
 add-batch c = search needs
 
 sub-m : tie.Need-sub-m Inv-loop μ-loop
-sub-m c = let z = c .before .before .before .before .before .before in
+sub-m c = let z = c .before .before .before .before .before in
     let b = z .before .before in
-    omega (arith, batch-less (b .loop .m) (z .batch-size .result) (z .before .loop-test .taken) (few b) (z .batch-size .ensures))
+    omega (arith, batch-less w64 good64 (b .loop .m) (z .batch-size .result) (z .before .loop-test .taken) (few b) (z .batch-size .ensures))
 
 loop-less : tie.Need-loop-less Inv-loop μ-loop
-loop-less c = let z = c .before .before .before .before .before .before in
+loop-less c = let z = c .before .before .before .before .before in
     let b = z .before .before in
-    omega (arith, batch-less (b .loop .m) (z .batch-size .result) (z .before .loop-test .taken) (few b) (z .batch-size .ensures))
+    omega (arith, batch-less w64 good64 (b .loop .m) (z .batch-size .result) (z .before .loop-test .taken) (few b) (z .batch-size .ensures))
 
 enum-told : tie.Need-enum-told Inv-loop μ-loop
 enum-told c = search needs
 
 returns : tie.Need-returns Inv-loop μ-loop
 returns c =
-    let z = c .before .before .before .before .before in
+    let z = c .before .before .before .before in
     let b = z .before .before in
     let h = z .before .loop-test .taken in
-    supply-short 64 _ _ _ _ _ _ _ (b .loop .inv .1) _ _ (batch-plan _ _ h (few b) (z .batch-size .ensures)) _
-    (batch-find _ _ h (few b) (z .batch-size .ensures) _ _ (c .before .before .before .before .product-down .ensures)
-    (c .before .before .before .threshold-of .ensures) _ _)
+    supply-short 64 _ _ _ _ _ _ _ (b .loop .inv .1) _ _ (batch-plan w64 good64 _ _ h (few b) (z .batch-size .ensures)) _
+    (batch-find w64 good64 _ _ h (few b) (z .batch-size .ensures) _ (c .before .before .before .product-down .ensures) _ _)
     (sym (c .before .before .find-word .ensures) ∙ c .enum-told .given .1)
 
 returns-2 : tie.Need-returns-2 Inv-loop μ-loop
 returns-2 c =
     let b = c .before in
     let h : b .loop .m ≤ 1 = search needs in
-    supply-done 64 _ _ _ _ _ _ _ (b .loop .inv .1) (plan-end sizes64 _ h)
+    supply-done 64 _ _ _ _ _ _ _ (b .loop .inv .1) (plan-end (good64 .sizes) _ h)
 
 pub supply-shuffle-spec : {M : Type 1} → statement M
 supply-shuffle-spec =
@@ -103,7 +98,6 @@ supply-shuffle-spec =
     loop-holds
     batch-size-requires
     product-down-requires
-    threshold-of-requires
     find-word-requires
     enum-known-place
     add-next
