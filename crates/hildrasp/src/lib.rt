@@ -1,24 +1,27 @@
-// The C face: each public operation under its C name, with the operation's own contract. A list crosses as a pointer and a count,
-// an answer by value. include/hildrasp.h declares these functions, and rust/ wraps them.
+// The C face: each public operation under its C name. A list crosses as a pointer and a count, an answer by value.
+// include/hildrasp.h declares these functions, and rust/ wraps them.
+//
+// Each contract has two parts: what the caller sees is what the definitions say (seenBatch and so on, the very contract of the code
+// below); and that meets demands 1 and 2 (promises/specs), for every call, with nothing left to be checked of the lists.
 use answers::answer::Answer;
 use answers::answer::Batch;
 use answers::answer::Behind;
 use sheet::run::Drawn;
 ghost use mathlib.Core.Path.{_≡_};
-ghost use lib.ListN.{length};
 ghost use Rattle.rules.specs.Width.{w64};
-ghost use Rattle.answers.specs.Outcome.{shown, shownBatch, shownBehind, left};
-ghost use Rattle.rolls.specs.Batch.{rollBatch};
-ghost use Rattle.lists.specs.List.{rollList};
-ghost use Rattle.runs.specs.Behind.{wordsBehind};
-ghost use Rattle.shuffles.specs.Shuffle.{shuffle};
-ghost use Rattle.draws.specs.Sample.{sample};
-ghost use Rattle.orders.specs.Order.{rollsBehind};
-ghost use Rattle.sheet.specs.Operations.{runSheet, shownDrawn};
+ghost use Rattle.rolls.specs.Batch.{seenBatch};
+ghost use Rattle.lists.specs.List.{seenList};
+ghost use Rattle.shuffles.specs.Shuffle.{seenShuffle};
+ghost use Rattle.draws.specs.Sample.{seenSample};
+ghost use Rattle.runs.specs.Behind.{seenBehind};
+ghost use Rattle.orders.specs.Order.{seenOrder};
+ghost use Rattle.sheet.specs.Operations.{seenSheet};
+ghost use Rattle.promises.specs.Batch as batch;
 
 #[no_mangle]
 pub extern "C" fn hildrasp_roll_batch(words: &[u64], start: usize, bounds: &[u64]) -> Batch
-    ensures { λ r. ⌜ r ≡ shownBatch start (rollBatch w64 (now (words .entry)) start (now (bounds .entry))) ⌝ }
+    ensures answer { λ r. ⌜ r ≡ seenBatch w64 (now (words .entry)) start (now (bounds .entry)) ⌝ }
+    ensures demands { λ r. ⌜ batch.Refuses w64 (now (words .entry)) start (now (bounds .entry)) r × batch.Gives w64 (now (words .entry)) start (now (bounds .entry)) r ⌝ }
 {
     rolls::batch::roll_batch(words, start, bounds)
 }
@@ -30,16 +33,16 @@ pub extern "C" fn hildrasp_roll_list(
     bounds: &[u64],
     rolls: &mut [u64],
 ) -> Answer
-    ensures answer { λ r. ⌜ r ≡ shown start (rollList w64 (now (words .entry)) start (now (bounds .entry)) (length (now (rolls .entry)))) ⌝ }
-    ensures rolls { λ r. ⌜ now (rolls .exit) ≡ left (now (rolls .entry)) (rollList w64 (now (words .entry)) start (now (bounds .entry)) (length (now (rolls .entry)))) ⌝ }
+    ensures answer { λ r. ⌜ r ≡ seenList w64 (now (words .entry)) start (now (bounds .entry)) (now (rolls .entry)) .0 ⌝ }
+    ensures rolls { λ r. ⌜ now (rolls .exit) ≡ seenList w64 (now (words .entry)) start (now (bounds .entry)) (now (rolls .entry)) .1 ⌝ }
 {
     lists::list::roll_list(words, start, bounds, rolls)
 }
 
 #[no_mangle]
 pub extern "C" fn hildrasp_shuffle(words: &[u64], start: usize, records: &mut [u32]) -> Answer
-    ensures answer { λ r. ⌜ r ≡ shown start (shuffle w64 (now (words .entry)) start (now (records .entry))) ⌝ }
-    ensures records { λ r. ⌜ now (records .exit) ≡ left (now (records .entry)) (shuffle w64 (now (words .entry)) start (now (records .entry))) ⌝ }
+    ensures answer { λ r. ⌜ r ≡ seenShuffle w64 (now (words .entry)) start (now (records .entry)) .0 ⌝ }
+    ensures records { λ r. ⌜ now (records .exit) ≡ seenShuffle w64 (now (words .entry)) start (now (records .entry)) .1 ⌝ }
 {
     shuffles::shuffle::shuffle_records(words, start, records)
 }
@@ -52,31 +55,31 @@ pub extern "C" fn hildrasp_sample(
     k: usize,
     slots: &mut [u32],
 ) -> Answer
-    ensures answer { λ r. ⌜ r ≡ shown start (sample w64 (now (words .entry)) start (now (records .entry)) k (length (now (slots .entry)))) ⌝ }
-    ensures slots { λ r. ⌜ now (slots .exit) ≡ left (now (slots .entry)) (sample w64 (now (words .entry)) start (now (records .entry)) k (length (now (slots .entry)))) ⌝ }
+    ensures answer { λ r. ⌜ r ≡ seenSample w64 (now (words .entry)) start (now (records .entry)) k (now (slots .entry)) .0 ⌝ }
+    ensures slots { λ r. ⌜ now (slots .exit) ≡ seenSample w64 (now (words .entry)) start (now (records .entry)) k (now (slots .entry)) .1 ⌝ }
 {
     draws::sample::sample_records(words, start, records, k, slots)
 }
 
 #[no_mangle]
 pub extern "C" fn hildrasp_words_behind(bounds: &[u64], rolls: &[u64]) -> Behind
-    ensures { λ r. ⌜ r ≡ shownBehind (wordsBehind w64 (now (bounds .entry)) (now (rolls .entry))) ⌝ }
+    ensures { λ r. ⌜ r ≡ seenBehind w64 (now (bounds .entry)) (now (rolls .entry)) ⌝ }
 {
     runs::behind::words_behind(bounds, rolls)
 }
 
 #[no_mangle]
 pub extern "C" fn hildrasp_rolls_behind(order: &[u32], rolls: &mut [u64]) -> Answer
-    ensures answer { λ r. ⌜ r ≡ shown 0 (rollsBehind (now (order .entry)) (length (now (rolls .entry)))) ⌝ }
-    ensures rolls { λ r. ⌜ now (rolls .exit) ≡ left (now (rolls .entry)) (rollsBehind (now (order .entry)) (length (now (rolls .entry)))) ⌝ }
+    ensures answer { λ r. ⌜ r ≡ seenOrder (now (order .entry)) (now (rolls .entry)) .0 ⌝ }
+    ensures rolls { λ r. ⌜ now (rolls .exit) ≡ seenOrder (now (order .entry)) (now (rolls .entry)) .1 ⌝ }
 {
     orders::order::rolls_behind(order, rolls)
 }
 
 #[no_mangle]
 pub extern "C" fn hildrasp_run_sheet(sheet: &[u8], slots: &mut [u32]) -> Drawn
-    ensures answer { λ r. ⌜ r ≡ shownDrawn (now (sheet .entry)) (runSheet w64 (now (sheet .entry)) (length (now (slots .entry)))) ⌝ }
-    ensures slots { λ r. ⌜ now (slots .exit) ≡ left (now (slots .entry)) (runSheet w64 (now (sheet .entry)) (length (now (slots .entry)))) ⌝ }
+    ensures answer { λ r. ⌜ r ≡ seenSheet w64 (now (sheet .entry)) (now (slots .entry)) .0 ⌝ }
+    ensures slots { λ r. ⌜ now (slots .exit) ≡ seenSheet w64 (now (sheet .entry)) (now (slots .entry)) .1 ⌝ }
 {
     sheet::run::run_sheet(sheet, slots)
 }

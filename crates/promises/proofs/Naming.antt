@@ -1,53 +1,43 @@
--- The runs of words behind an order, as two operations name them. An order of different records is an order of their places: a shuffle
+-- The runs of words behind an order, as the two ways back name them. An order of different records is an order of their places: a shuffle
 -- moves records as it moves their places, so the rolls behind the places are the rolls behind the records. Assumes nothing.
 --
---   plan-fits                    the batches of a shuffle can be rolled
 --   places-length, places-at     the places of records, one by one
---   order-done                   the rolls behind an order, as the definitions give them
 --   rolls-named                  the rolls behind the places of an order, as the operation gives them: those that are looked up in the records
---   runOf, run-named, run-full   the run of a batch, as the operation gives it, and its length
 --   runs-full, runs-in           the runs of a plan, as the operation gives them
 use mathlib.Core.Path.{_≡_, refl, sym, ap, _∙_, subst}
 use mathlib.Core.Logic.{_↔_}
-use mathlib.Core.Bool.{false, not}
 use mathlib.Core.List.{List, [], _∷_, _++_, append-nil}
-use Prim.Native.Nat.{ℕ, zero, suc, _-_, _^_, _<_, _≤_, zero-le}
+use Prim.Native.Nat.{ℕ, zero, suc, _-_, _^_, _<_, _≤_}
 use native.Mathlib.Nat.{le-of-suc-le-suc, not-suc-le-zero}
 use native.Mathlib.Decide.{ℕ-discrete}
 use native.Mathlib.Omega.{arith}
-use lib.Dec.{T, eqb, lit≤}
+use lib.Dec.{T}
 use lib.ListN.{length, take, drop, getD, replicate, length-replicate, drop-of-length-le}
 use lib.Seq.{ext-getD}
-use borrow.Author.Tests.{le-ltb, ne-eqb}
-use Rattle.rules.specs.Rolls.{product, inRange, firstWord, lastWord, hasZero}
-use Rattle.rules.specs.Width.{size64}
-use Rattle.rules.proofs.Products.{product-pos-head, product-pos-tail}
-use Rattle.rules.proofs.Words.{first-last, last-fits, run-length}
-use Rattle.answers.specs.Outcome.{done}
-use Rattle.answers.proofs.Deciding.{decide-past, decide-none, in-count}
-use Rattle.rules.proofs.Range.{range-length, range-split}
-use Rattle.runs.proofs.WayBack.{behind-found}
-use Rattle.rules.specs.Shuffle.{exchange, shuffleWith, shuffleBounds, shufflePlan}
-use Rattle.rules.specs.Reservoir.{countup}
+use Rattle.rules.specs.Limits.{maxRecords}
 use Rattle.rules.specs.Order.{isOrder, placeOf, rollsInto, Distinct, Reorders, Only}
-use Rattle.rules.specs.Plan.{joined, Rollable, RollablePlan, PlanOf}
-use Rattle.orders.specs.Order.{rollsBehind}
-use Rattle.rules.proofs.Rows.{countup-length, countup-at, shuffle-bounds-length}
-use Rattle.rules.proofs.ShufflePlans.{sizes-more, sizes64, shuffle-plan}
-use Rattle.rules.proofs.Orders.{Reordered, reordered, place-of, range-cons, length-shuffle, one-series}
-use Rattle.rules.proofs.Exchanging.{length-exchange, exchange-first, exchange-last, exchange-other}
-use Rattle.rules.proofs.Runs.{InRuns}
+use Rattle.rules.specs.Plan.{joined, RollablePlan}
+use Rattle.rules.specs.Reservoir.{countup}
+use Rattle.rules.specs.Rolls.{inRange}
+use Rattle.rules.specs.Run.{next, rejected}
+use Rattle.rules.specs.Shuffle.{exchange, shuffleWith, shuffleBounds}
+use Rattle.rules.specs.Width.{Width}
 use Rattle.rules.proofs.Each.{order-iff, rolls-behind}
+use Rattle.rules.proofs.Exchanging.{length-exchange, exchange-first, exchange-last, exchange-other}
+use Rattle.rules.proofs.Orders.{Reordered, reordered, place-of, range-cons, length-shuffle, one-series}
+use Rattle.rules.proofs.Range.{range-length, range-split}
+use Rattle.rules.proofs.Rows.{countup-length, countup-at, shuffle-bounds-length}
+use Rattle.rules.proofs.Runs.{InRuns}
+use Rattle.answers.specs.Outcome.{done, seen}
+use Rattle.answers.specs.Supplied.{answered}
 use Rattle.answers.specs.declared.answer.Behind.{Behind}
-use Rattle.promises.specs.Contracts.{Operations, seen}
+use Rattle.orders.specs.Order.{rollsBehind, seenOrder}
+use Rattle.runs.specs.Behind.{seenBehind}
+use Rattle.promises.specs.Behind.{FullRun}
 use Rattle.promises.specs.Demand3.{Paired, places, runsNamed, InRun}
-use Rattle.promises.specs.Demand2.{FullRun}
-use Rattle.promises.proofs.Model.{MetBack}
+use Rattle.promises.proofs.Behind.{run-named, run-full}
+use Rattle.promises.proofs.Order.{order-done}
 use Rattle.promises.proofs.Refusing.{truth}
-
--- the batches of a shuffle can be rolled
-pub plan-fits : (n : ℕ) → n ≤ 16384 → PlanOf (2 ^ 64) (shuffleBounds n) (shufflePlan size64 n)
-plan-fits = shuffle-plan (sizes-more (lit≤ tt) sizes64)
 
 -- ---- records read by their places
 
@@ -104,14 +94,6 @@ places-at xs [] i h = absurd (not-suc-le-zero h)
 places-at xs (y ∷ ys) zero h = refl
 places-at xs (y ∷ ys) (suc i) h = places-at xs ys i (le-of-suc-le-suc h)
 
--- the operation, where it refuses nothing
-pub order-done : (ys : List ℕ) (room : ℕ) → length ys ≤ 16384 → length ys - 1 ≤ room → T (isOrder ys)
-    → rollsBehind ys room ≡ done (rollsInto (length ys) (countup (length ys) 0) ys) 0 0
-unfolding rollsBehind
-order-done ys room h k t =
-    decide-past _ _ _ (in-count 0 16384 (length ys) zero-le h) ∙ decide-past _ _ _ (le-ltb room (length ys - 1) k)
-    ∙ decide-past _ _ _ (ap not (truth (isOrder ys) t)) ∙ decide-none _
-
 module _ (xs ys : List ℕ) (d : Distinct xs) (r : Reorders xs ys) where
   o : Reordered xs ys
   o = reordered xs ys d r
@@ -157,59 +139,36 @@ module _ (xs ys : List ℕ) (d : Distinct xs) (r : Reorders xs ys) where
               ∙ ap (record-at xs) (ap (λ (l : List ℕ). getD l i 0) (only .gives) ∙ places-at xs ys i k)
               ∙ stands i k .1
 
-  pub rolls-named : (op : Operations) → MetBack op → length xs ≤ 16384
-      → op .rolls-behind (places xs ys) (replicate (length xs - 1) 0) ≡ (record { no = 0; next = 0; rejected = 0; batch = 0 }, rollsInto (length xs) xs ys)
-  rolls-named op m h =
+  pub rolls-named : length xs ≤ maxRecords → seenOrder (places xs ys) (replicate (length xs - 1) 0) ≡ (answered 0 0, rollsInto (length xs) xs ys)
+  unfolding next rejected
+  rolls-named h =
       let order : List ℕ = places xs ys in
       let lent : List ℕ = replicate (length xs - 1) 0 in
       let room : length lent ≡ length xs - 1 = length-replicate (length xs - 1) 0 in
       let values : List ℕ = rollsInto (length xs) xs ys in
       let count : length values ≡ length xs - 1 =
       range-length (shuffleBounds (length xs)) values (truth _ (one-series xs ys d r .in-range)) ∙ shuffle-bounds-length (length xs) in
-      let gives : rollsBehind order (length lent) ≡ done values 0 0 =
+      let gives : rollsBehind order (length lent) ≡ done values [] =
       order-done order (length lent) (omega (arith, places-count)) (omega (arith, places-count)) places-order
-      ∙ ap (λ (l : List ℕ). done l 0 0) (rw places-count rolls-same) in
+      ∙ ap (λ (l : List ℕ). done l []) (rw places-count rolls-same) in
       let all : values ++ drop (length values) lent ≡ values =
       ap (λ (l : List ℕ). values ++ l) (drop-of-length-le lent {i = length values} (omega arith)) ∙ append-nil values in
-      m .rolls-behind order lent ∙ ap (seen 0 lent) gives ∙ (λ i. (record { no = 0; next = 0; rejected = 0; batch = 0 }, all i))
+      ap (seen 0 lent) gives ∙ (λ i. (answered 0 0, all i))
 
--- ---- the run of a batch
+-- ---- the runs of a plan, as the words behind rolls name them
 
-pos-no-zero : (bs : List ℕ) → 0 < product bs → hasZero bs ≡ false
-unfolding hasZero product
-pos-no-zero [] p = refl
-pos-no-zero (b ∷ bs) p =
-    let e : eqb b 0 ≡ false = ne-eqb b 0 (λ z. omega (arith, product-pos-head b (product bs) p)) in
-    rw e (pos-no-zero bs (product-pos-tail b (product bs) p))
-
-abbrev pub runOf : List ℕ → List ℕ → Behind
-runOf bs rs = record { no = 0; next = 0; rejected = 0; first = firstWord 64 bs rs; last = lastWord 64 bs rs }
-
-pub run-full : (bs rs : List ℕ) → Rollable (2 ^ 64) bs → T (inRange bs rs) → FullRun bs (runOf bs rs)
-run-full bs rs b i = record {
-  named = (refl, refl, refl);
-  words = (first-last 64 bs rs (b .positive) (b .fits), last-fits 64 bs rs (b .positive) (b .fits) i);
-  long = run-length 64 bs rs (b .positive) (b .fits);
-}
-
-pub run-named : (op : Operations) → MetBack op → (bs rs : List ℕ) → Rollable (2 ^ 64) bs → T (inRange bs rs) → op .words-behind bs rs ≡ runOf bs rs
-run-named op meets bs rs b i =
-    meets .words-behind bs rs
-    ∙ behind-found bs rs (in-count 1 16 (length bs) (b .some) (b .few)) (pos-no-zero bs (b .positive)) (le-ltb (2 ^ 64) (product bs) (b .fits))
-    (truth (inRange bs rs) i)
-
-module _ (op : Operations) (meets : MetBack op) where
-  pub runs-full : (plan : List (List ℕ)) (rs : List ℕ) → RollablePlan (2 ^ 64) plan → T (inRange (joined plan) rs)
-      → Paired FullRun plan (runsNamed (op .words-behind) plan rs)
+module _ (W : Width) where
+  pub runs-full : (plan : List (List ℕ)) (rs : List ℕ) → RollablePlan (2 ^ W .bits) plan → T (inRange (joined plan) rs)
+      → Paired (FullRun (W .bits)) plan (runsNamed (seenBehind W) plan rs)
   unfolding joined runsNamed
   runs-full [] rs g i = tt
   runs-full (bs ∷ plan) rs (b, g) i =
       let s = range-split bs (joined plan) rs i in
       let part : List ℕ = take (length bs) rs in
-      (subst (FullRun bs) (sym (run-named op meets bs part b (s .0))) (run-full bs part b (s .0)), runs-full plan (drop (length bs) rs) g (s .1))
+      (subst (FullRun (W .bits) bs) (sym (run-named W bs part b (s .0))) (run-full (W .bits) bs part b (s .0)), runs-full plan (drop (length bs) rs) g (s .1))
 
-  pub runs-in : (plan : List (List ℕ)) (rs words : List ℕ) → RollablePlan (2 ^ 64) plan → T (inRange (joined plan) rs)
-      → Paired InRun (runsNamed (op .words-behind) plan rs) words ↔ InRuns 64 plan rs words
+  pub runs-in : (plan : List (List ℕ)) (rs words : List ℕ) → RollablePlan (2 ^ W .bits) plan → T (inRange (joined plan) rs)
+      → Paired InRun (runsNamed (seenBehind W) plan rs) words ↔ InRuns (W .bits) plan rs words
   unfolding joined runsNamed
   runs-in [] rs [] g i = (λ x. x, λ x. x)
   runs-in [] rs (w ∷ ws) g i = (λ x. x, λ x. x)
@@ -217,6 +176,6 @@ module _ (op : Operations) (meets : MetBack op) where
   runs-in (bs ∷ plan) rs (w ∷ ws) (b, g) i =
       let s = range-split bs (joined plan) rs i in
       let later = runs-in plan (drop (length bs) rs) ws g (s .1) in
-      subst (λ (run : Behind). (InRun run w × Paired InRun (runsNamed (op .words-behind) plan (drop (length bs) rs)) ws) ↔ InRuns 64 (bs ∷ plan) rs (w ∷ ws))
-      (sym (run-named op meets bs (take (length bs) rs) b (s .0)))
+      subst (λ (run : Behind). (InRun run w × Paired InRun (runsNamed (seenBehind W) plan (drop (length bs) rs)) ws) ↔ InRuns (W .bits) (bs ∷ plan) rs (w ∷ ws))
+      (sym (run-named W bs (take (length bs) rs) b (s .0)))
       (λ (r, x). (r .0, r .1, later .0 x), λ (low, high, x). ((low, high), later .1 x))

@@ -2,16 +2,27 @@
 --
 --   truth                       a test that holds is true
 --   as-refused                  a refusal is the first one, alone, whatever an operation's answer looks like
+--   beside-refused              and so of an answer beside a lent list
 --   allowed-cons, allowed-done  where no refusal applies: none of the list does, and the outcome is not refused
+--   first-is-lowest             of refusals whose numbers rise the first that applies is the lowest
+--   ten-last                    a list that ends with number 10
+--   Numbered, settle            two answers that are as refused agree, where they do with no refusal
 use mathlib.Core.Path.{_≡_, refl, sym, ap, _∙_}
 use mathlib.Core.Bool.{Bool, true, false}
-use mathlib.Core.List.{List, [], _∷_}
-use Prim.Native.Nat.{ℕ}
-use lib.Dec.{T}
+use mathlib.Core.Logic.{_≢_}
+use mathlib.Core.List.{List, [], _∷_, _++_}
+use Prim.Native.Nat.{ℕ, _<_, _≤_}
+use native.Mathlib.Nat.{le-refl, le-of-lt, le-trans}
+use native.Mathlib.Omega.{arith}
+use lib.Dec.{T, lit<}
+use Rattle.rules.specs.Run.{Taken, Run, ran, short, run}
+use Rattle.rules.specs.Width.{Width}
 use Rattle.rules.proofs.Facts.{clash}
 use Rattle.answers.specs.Outcome.{Outcome, refused, Refusal, decide}
 use Rattle.answers.proofs.Deciding.{decide-here, decide-past, decide-none}
-use Rattle.promises.specs.Demand1.{firstOf, AsRefused}
+use Rattle.answers.specs.Outcome.{done, no, noWord, ofBounds, ofWords, shown, left, seen}
+use Rattle.answers.specs.declared.answer.Answer.{Answer}
+use Rattle.promises.specs.Demand1.{firstOf, AsRefused, numbersOf, Rising, Lowest, FirstIsLowest}
 use Rattle.promises.specs.Demand2.{Allowed}
 
 pub truth : (b : Bool) → T b → b ≡ true
@@ -19,11 +30,11 @@ truth true t = refl
 truth false t = absurd t
 
 module _ (r : Refusal) (rs : List Refusal) where
-  first-here : r .applies ≡ true → firstOf (r ∷ rs) ≡ r
+  pub first-here : r .applies ≡ true → firstOf (r ∷ rs) ≡ r
   unfolding firstOf
   first-here e = ap (λ (b : Bool). elim b as (λ x. Refusal) [ true ↦ r | false ↦ firstOf rs ]) e
 
-  first-past : r .applies ≡ false → firstOf (r ∷ rs) ≡ firstOf rs
+  pub first-past : r .applies ≡ false → firstOf (r ∷ rs) ≡ firstOf rs
   unfolding firstOf
   first-past e = rw (e, firstOf)
 
@@ -50,6 +61,13 @@ module _ {A : Type 0} (show saying : Outcome → A) (number : A → ℕ) (says :
           let first : firstOf rs ≡ firstOf (r ∷ rs) = sym (first-past r rs f) in
           record { lowest = g .lowest ∙ ap (λ (x : Refusal). x .number) first; whole = λ n. g .whole n ∙ ap told first }
 
+-- an operation that gives an answer beside a lent list, and whose outcome is decided by its refusals and else done
+pub beside-refused : (start : ℕ) (lent : List ℕ) (refusals : List Refusal) (values : List ℕ) (ts : List Taken) (got : Answer × List ℕ)
+    → got ≡ seen start lent (decide refusals (done values ts)) → AsRefused refusals (λ o. (shown start o, lent)) (got .0 .no) got
+beside-refused start lent refusals values ts got e =
+    as-refused (seen start lent) (λ o. (shown start o, lent)) (λ (x : Answer × List ℕ). x .0 .no) (λ n b. refl) (λ n b. refl)
+    (done values ts) refl refusals got e
+
 -- ---- where no refusal applies
 
 pub allowed-cons : (r : Refusal) (rs : List Refusal) → Allowed (r ∷ rs) → (r .applies ≡ false) × Allowed rs
@@ -64,3 +82,79 @@ allowed-cons r rs a = go (r .applies) refl
 pub allowed-done : (rs : List Refusal) (o : Outcome) → Allowed rs → decide rs o ≡ o
 allowed-done [] o a = decide-none o
 allowed-done (r ∷ rs) o a = let (e, later) = allowed-cons r rs a in decide-past r rs o e ∙ allowed-done rs o later
+
+pub allowed-append : (rs ss : List Refusal) → Allowed (rs ++ ss) → Allowed rs × Allowed ss
+unfolding firstOf
+allowed-append [] ss a = (refl, a)
+allowed-append (r ∷ rs) ss a =
+    let (e, later) = allowed-cons r (rs ++ ss) a in
+    let (b, c) = allowed-append rs ss later in
+    (ap (λ (x : Refusal). x .applies) (first-past r rs e) ∙ b, c)
+
+-- ---- the numbers of a list that ends with number 10
+
+pub ten-last : (r : Run) (ns : List ℕ) → ns ++ noWord r .number ∷ [] ≡ ns ++ 10 ∷ []
+ten-last (ran ts) ns = refl
+ten-last (short k) ns = refl
+
+-- ---- the lowest
+
+-- below the numbers of a rising list
+above : (n : ℕ) (rs : List Refusal) → Rising (n ∷ numbersOf rs) → (m : ℕ) → m ≤ n → Lowest m rs
+above n [] v m h = tt
+above n (r ∷ []) (l, v) m h = (λ e. le-trans h (le-of-lt l), tt)
+above n (r ∷ s ∷ rs) (l, v) m h = (λ e. le-trans h (le-of-lt l), above (r .number) (s ∷ rs) v m (le-trans h (le-of-lt l)))
+
+rising-tail : (n : ℕ) (ns : List ℕ) → Rising (n ∷ ns) → Rising ns
+rising-tail n [] v = tt
+rising-tail n (m ∷ ns) v = v .1
+
+pub first-is-lowest : FirstIsLowest
+first-is-lowest [] v = tt
+first-is-lowest (r ∷ rs) v = go (r .applies) refl (first-is-lowest rs (rising-tail (r .number) (numbersOf rs) v))
+  where
+    go : (b : Bool) → r .applies ≡ b → Lowest (firstOf rs .number) rs → Lowest (firstOf (r ∷ rs) .number) (r ∷ rs)
+    go true e ih = rw (first-here r rs e) (λ f. le-refl (r .number), above (r .number) rs v (r .number) (le-refl (r .number)))
+    go false e ih = rw (first-past r rs e) (λ f. let z : _≡_ {A = Bool} false true = sym e ∙ f in clash cc, ih)
+
+-- ---- a refusal that applies has a number above 0
+
+abbrev pub Numbered : List Refusal → Type 0
+Numbered rs = firstOf rs .applies ≡ true → firstOf rs .number ≢ 0
+
+pub numbered-nil : Numbered []
+unfolding firstOf
+numbered-nil e = clash cc
+
+numbered-cons : (r : Refusal) (rs : List Refusal) → r .number ≢ 0 → Numbered rs → Numbered (r ∷ rs)
+numbered-cons r rs n m = go (r .applies) refl
+  where
+    go : (b : Bool) → r .applies ≡ b → Numbered (r ∷ rs)
+    go true e h z = n (ap (λ (x : Refusal). x .number) (sym (first-here r rs e)) ∙ z)
+    go false e h z =
+        let same = first-past r rs e in
+        m (ap (λ (x : Refusal). x .applies) (sym same) ∙ h) (ap (λ (x : Refusal). x .number) (sym same) ∙ z)
+
+pub numbered-no : (n : ℕ) (b : Bool) (rs : List Refusal) → 0 < n → Numbered rs → Numbered (no n b ∷ rs)
+numbered-no n b rs p m = numbered-cons (no n b) rs (λ z. let f : ⊥ = omega arith in f) m
+
+pub numbered-word : (r : Run) → Numbered (noWord r ∷ [])
+numbered-word r = numbered-cons (noWord r) [] (ten r) numbered-nil
+  where
+    ten : (r : Run) → noWord r .number ≢ 0
+    ten (ran ts) z = let f : ⊥ = omega arith in f
+    ten (short k) z = let f : ⊥ = omega arith in f
+
+pub numbered-words : (L : ℕ) (plan : List (List ℕ)) (words : List ℕ) (start : ℕ) → Numbered (ofWords L plan words start)
+numbered-words L plan words start = numbered-no 9 _ _ (lit< tt) (numbered-word (run L plan words start))
+
+pub numbered-bounds : (W : Width) (bs : List ℕ) (rs : List Refusal) → Numbered rs → Numbered (ofBounds W bs ++ rs)
+numbered-bounds W bs rs m = numbered-no 2 _ _ (lit< tt) (numbered-no 4 _ _ (lit< tt) (numbered-no 5 _ _ (lit< tt) m))
+
+module _ {A : Type 0} (refusals : List Refusal) (saying : Outcome → A) (number : A → ℕ) (p : Numbered refusals) (x y : A) where
+  pub settle : AsRefused refusals saying (number x) x → AsRefused refusals saying (number y) y → (Allowed refusals → x ≡ y) → x ≡ y
+  settle a b f = go (firstOf refusals .applies) refl
+    where
+      go : (t : Bool) → firstOf refusals .applies ≡ t → x ≡ y
+      go true e = a .whole (λ z. p e (sym (a .lowest) ∙ z)) ∙ sym (b .whole (λ z. p e (sym (b .lowest) ∙ z)))
+      go false e = f e

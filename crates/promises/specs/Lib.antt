@@ -1,7 +1,13 @@
-pub mod Agreement
-pub mod Contracts
 pub mod Demand1
 pub mod Demand2
+pub mod Batch
+pub mod List
+pub mod Shuffle
+pub mod Sample
+pub mod Behind
+pub mod Order
+pub mod Sheet
 pub mod Demand3
+pub mod FirstBatch
 pub mod Examples
-pub mod StandIns
+pub mod Promises

@@ -1,0 +1,135 @@
+-- The sample. Assumes nothing.
+--
+--   plan-fits    the batches of a sample can be rolled
+--   promise      the promise, at 64 bits
+use mathlib.Core.Path.{_≡_, refl, sym, ap, _∙_}
+use mathlib.Core.List.{List, [], _∷_, _++_}
+use Prim.Native.Nat.{ℕ, _+_, _-_, _^_, _≤_}
+use native.Mathlib.Nat.{le-refl, le-of-lt, le-trans}
+use native.Mathlib.Omega.{arith}
+use lib.Dec.{ltb, lit<}
+use lib.ListN.{length, take, drop, getD}
+use borrow.Author.Tests.{ltb-false}
+use Rattle.rules.specs.Cut.{cut, cutFrom}
+use Rattle.rules.specs.Limits.{maxRecords}
+use Rattle.rules.specs.Plan.{PlanOf}
+use Rattle.rules.specs.Reservoir.{countup, reservoir}
+use Rattle.rules.specs.Rolls.{rolls, rest, product}
+use Rattle.rules.specs.Run.{find, run, runFrom, trace, rollsOf, next, rejected}
+use Rattle.rules.specs.Width.{Width, w64}
+use Rattle.rules.proofs.CutPlans.{sample-plan}
+use Rattle.rules.proofs.Facts.{or-right}
+use Rattle.rules.proofs.Reservoir.{sample-length}
+use Rattle.rules.proofs.Widths.{GoodWidth, good64}
+use Rattle.answers.specs.Outcome.{decide, shown}
+use Rattle.answers.specs.declared.answer.Answer.{Answer}
+use Rattle.draws.specs.Sample.{samplePlan, sampleRefusals, sample, seenSample}
+use Rattle.promises.specs.Demand1.{Callable, firstOf}
+use Rattle.promises.specs.Demand2.{Allowed, ByMethod}
+use Rattle.promises.specs.Sample.{Op, Numbers, Demand1, Demand2, Bounds, Settled, StandIns, Promise}
+use Rattle.promises.proofs.Calls.{below-nil, below-cons, one-number}
+use Rattle.promises.proofs.Method.{by-method, same-seen}
+use Rattle.promises.proofs.Refusing.{beside-refused, allowed-cons, allowed-done, numbered-no, numbered-words, settle, ten-last}
+use Rattle.promises.proofs.Shuffle.{few-records}
+
+numbers : (W : Width) → Numbers W
+numbers W words start n k room = ten-last (run (W .bits) (samplePlan W n k) words start) (2 ∷ 3 ∷ 6 ∷ 9 ∷ [])
+
+bounds : (W : Width) → GoodWidth W → Bounds W
+bounds W g n k h = sample-plan (W .limit) (W .limit) (le-refl (W .limit)) n k (le-trans h (g .records))
+
+pub plan-fits : (W : Width) → GoodWidth W → (n k : ℕ) → n ≤ maxRecords → PlanOf (2 ^ W .bits) (countup (n - k) (k + 1)) (samplePlan W n k)
+plan-fits W g n k h = sample-plan (W .limit) (2 ^ W .bits) (le-of-lt (g .fits)) n k (le-trans h (le-trans (g .records) (le-of-lt (g .fits))))
+
+demand1 : (W : Width) → Demand1 W (seenSample W)
+unfolding sample
+demand1 W words start xs k lent w =
+    beside-refused start lent (sampleRefusals W words start (length xs) k (length lent)) _ _ (seenSample W words start xs k lent) refl
+
+module _ (W : Width) (g : GoodWidth W) where
+  demand2 : Demand2 W (seenSample W)
+  unfolding sample
+  demand2 words start xs k lent w a =
+      let (count, b) = allowed-cons _ _ a in
+      let (size, c) = allowed-cons _ _ b in
+      let (room, d) = allowed-cons _ _ c in
+      let plan : List (List ℕ) = samplePlan W (length xs) k in
+      let good = plan-fits W g (length xs) k (few-records (length xs) count) in
+      let rs : List ℕ = rollsOf (W .bits) plan (trace (run (W .bits) plan words start)) in
+      let n = sample-length xs rs k (ltb-false (length xs) k (or-right (ltb k 1) (ltb (length xs) k) size)) in
+      rw (allowed-done _ _ a) (record { none = (refl, refl); method = by-method (W .bits) plan words start d (good .rollable) w _ (rw n refl) })
+
+  -- two that go by the method on one call
+  same : (words : List ℕ) (start : ℕ) (xs : List ℕ) (k : ℕ) (lent : List ℕ) → Callable (W .bits) words
+      → Allowed (sampleRefusals W words start (length xs) k (length lent)) → (x y : Answer × List ℕ)
+      → ByMethod (W .bits) (samplePlan W (length xs) k) words start (λ rs. reservoir (take k xs) (drop k xs) rs ++ drop k lent) x
+      → ByMethod (W .bits) (samplePlan W (length xs) k) words start (λ rs. reservoir (take k xs) (drop k xs) rs ++ drop k lent) y → x ≡ y
+  same words start xs k lent w a =
+      same-seen (W .bits) (samplePlan W (length xs) k) words (plan-fits W g (length xs) k (few-records (length xs) (allowed-cons _ _ a .0)) .rollable) w start
+      (λ rs. reservoir (take k xs) (drop k xs) rs ++ drop k lent)
+
+  settled : Settled W
+  settled a b a1 a2 b1 b2 words start xs k lent w =
+      settle (sampleRefusals W words start (length xs) k (length lent)) (λ o. (shown start o, lent)) (λ (x : Answer × List ℕ). x .0 .no)
+      (numbered-no 2 _ _ (lit< tt) (numbered-no 3 _ _ (lit< tt) (numbered-no 6 _ _ (lit< tt) (numbered-words (W .bits) (samplePlan W (length xs) k) words start))))
+      (a words start xs k lent) (b words start xs k lent) (a1 words start xs k lent w) (b1 words start xs k lent w)
+      (λ al. same words start xs k lent w al _ _ (a2 words start xs k lent w al) (b2 words start xs k lent w al))
+
+  -- on a call that is not refused, an operation that meets demand 2 answers as ours
+  agrees : (op : Op) → Demand2 W op → (words : List ℕ) (start : ℕ) (xs : List ℕ) (k : ℕ) (lent : List ℕ) → Callable (W .bits) words
+      → Allowed (sampleRefusals W words start (length xs) k (length lent)) → op words start xs k lent ≡ seenSample W words start xs k lent
+  agrees op d words start xs k lent w a = same words start xs k lent w a _ _ (d words start xs k lent w a) (demand2 words start xs k lent w a)
+
+abbrev two-records : List ℕ
+two-records = 0 ∷ 1 ∷ []
+
+abbrev three-records : List ℕ
+three-records = 0 ∷ 1 ∷ 2 ∷ []
+
+-- the record in slot 0
+abbrev front : Answer × List ℕ → ℕ
+front x = getD (x .1) 0 0
+
+stand-ins : StandIns w64
+unfolding firstOf product rest rolls find runFrom rollsOf next rejected decide sample cut cutFrom countup reservoir
+stand-ins = record {
+  refuses = λ op r d. r [] 0 (7 ∷ []) 1 (0 ∷ []) below-nil (d [] 0 (7 ∷ []) 1 (0 ∷ []) below-nil refl .none .0);
+  -- one of two records: word 0 takes the second, and word 2^63 the first
+  fixed = λ op made f d.
+      let low = agrees w64 good64 op d (0 ∷ []) 0 two-records 1 (0 ∷ []) zero refl in
+      let high = agrees w64 good64 op d (2 ^ 63 ∷ []) 0 two-records 1 (0 ∷ []) half refl in
+      let same = f (0 ∷ []) 0 two-records 1 (0 ∷ []) (d (0 ∷ []) 0 two-records 1 (0 ∷ []) zero refl .none .0)
+      ∙ sym (f (2 ^ 63 ∷ []) 0 two-records 1 (0 ∷ []) (d (2 ^ 63 ∷ []) 0 two-records 1 (0 ∷ []) half refl .none .0)) in
+      let z : _≡_ {A = ℕ} 1 0 = sym (ap front low) ∙ ap (λ (l : List ℕ). getD l 0 0) same ∙ ap front high in
+      omega arith;
+  -- one of three records: of the words 0, 1 one is rejected, of the words 1, 1 none
+  invented = λ op made f d.
+      let some = agrees w64 good64 op d (0 ∷ 1 ∷ []) 0 three-records 1 (0 ∷ []) zero-one refl in
+      let none = agrees w64 good64 op d (1 ∷ 1 ∷ []) 0 three-records 1 (0 ∷ []) one-one refl in
+      let same = f (0 ∷ 1 ∷ []) 0 three-records 1 (0 ∷ []) (d (0 ∷ 1 ∷ []) 0 three-records 1 (0 ∷ []) zero-one refl .none .0)
+      ∙ sym (f (1 ∷ 1 ∷ []) 0 three-records 1 (0 ∷ []) (d (1 ∷ 1 ∷ []) 0 three-records 1 (0 ∷ []) one-one refl .none .0)) in
+      let z : _≡_ {A = ℕ} 1 0 = sym (ap (λ (x : Answer × List ℕ). x .0 .rejected) some) ∙ same ∙ ap (λ (x : Answer × List ℕ). x .0 .rejected) none in
+      omega arith;
+}
+  where
+    zero : Callable 64 (0 ∷ [])
+    zero = one-number 0 (lit< tt)
+
+    half : Callable 64 (2 ^ 63 ∷ [])
+    half = one-number (2 ^ 63) (lit< tt)
+
+    zero-one : Callable 64 (0 ∷ 1 ∷ [])
+    zero-one = below-cons 0 (1 ∷ []) (lit< tt) (one-number 1 (lit< tt))
+
+    one-one : Callable 64 (1 ∷ 1 ∷ [])
+    one-one = below-cons 1 (1 ∷ []) (lit< tt) (one-number 1 (lit< tt))
+
+pub promise : Promise w64
+promise = record {
+  numbers = numbers w64;
+  demand1 = demand1 w64;
+  demand2 = demand2 w64 good64;
+  bounds = bounds w64 good64;
+  settled = settled w64 good64;
+  stand-ins = stand-ins;
+}

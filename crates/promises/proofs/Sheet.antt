@@ -1,0 +1,154 @@
+-- Running a draw sheet: a sheet that nothing refuses is drawn as the sample of its words and records. Assumes nothing.
+--
+--   promise    the promise, at 64 bits
+use mathlib.Core.Path.{_≡_, refl, sym, ap, _∙_}
+use mathlib.Core.Bool.{Bool, false}
+use mathlib.Core.List.{List, [], _∷_, _++_}
+use Prim.Native.Nat.{ℕ, zero, suc, suc-le-suc, zero-le, _+_, _^_, _<_, _≤_}
+use native.Mathlib.Nat.{pow-succ'}
+use native.Mathlib.Omega.{arith}
+use lib.Dec.{ltb, lit≤, lit<}
+use lib.ListN.{length, take, drop}
+use borrow.Author.Tests.{le-ltb, ltb-false, not-false}
+use Rattle.rules.specs.Limits.{maxRecords}
+use Rattle.rules.specs.Order.{AllBelow}
+use Rattle.rules.specs.Plan.{RollablePlan}
+use Rattle.rules.specs.Reservoir.{countup, reservoir}
+use Rattle.rules.specs.Cut.{cut}
+use Rattle.rules.specs.Run.{Run, run, runFrom, trace, rollsOf, next, rejected}
+use Rattle.rules.specs.Width.{Width, w64}
+use Rattle.rules.proofs.Facts.{or-left, or-right}
+use Rattle.rules.proofs.Reservoir.{sample-length}
+use Rattle.rules.proofs.Widths.{GoodWidth, good64}
+use Rattle.answers.specs.Outcome.{Refusal, no, noWord, ofWords, outside, left}
+use Rattle.answers.specs.declared.answer.Answer.{Answer}
+use Rattle.draws.specs.Sample.{samplePlan, sampled}
+use Rattle.sheet.specs.Sheet.{little, number, numbers, entries, wordsOf, recordsOf, isSound}
+use Rattle.sheet.specs.Operations.{sheetRefusals, runSheet, drawnBy, shownDrawn, seenSheet}
+use Rattle.sheet.specs.declared.run.Drawn.{Drawn}
+use Rattle.sheet.proofs.Soundness.{sound-known, sound-iff, entries-length, sheet-records}
+use Rattle.promises.specs.Demand1.{firstOf}
+use Rattle.promises.specs.Demand2.{Allowed, ByMethod}
+use Rattle.promises.specs.Sheet.{Op, Bytes, CanMeet, Fits, answerOf, Draws, Demand1, Demand2, Settled, StandIns, Promise}
+use Rattle.promises.proofs.Calls.{below-nil, below-cons, allBelow, all-below}
+use Rattle.promises.proofs.Method.{by-method, same-seen}
+use Rattle.promises.proofs.Refusing.{as-refused, first-past, allowed-cons, allowed-done, numbered-no, numbered-word, settle, ten-last}
+use Rattle.promises.proofs.Sample.{plan-fits}
+
+-- ---- the words and the records of a sheet
+
+below-drop : (at : ℕ) (s : List ℕ) → AllBelow 256 s → AllBelow 256 (drop at s)
+below-drop zero s b = b
+below-drop (suc at) [] b = b
+below-drop (suc at) (x ∷ s) b = below-drop at s (λ i h. b (suc i) (suc-le-suc h))
+
+little-below : (size : ℕ) (s : List ℕ) → AllBelow 256 s → little (take size s) < 256 ^ size
+unfolding little
+little-below zero s b = lit≤ tt
+little-below (suc size) [] b = omega (arith, little-below size [] b, pow-succ' 256 size)
+little-below (suc size) (x ∷ s) b =
+    omega (arith, b 0 (omega arith), little-below size s (λ i h. b (suc i) (suc-le-suc h)), pow-succ' 256 size)
+
+entries-below : (size count at : ℕ) (s : List ℕ) → AllBelow 256 s → AllBelow (256 ^ size) (entries size count at s)
+unfolding entries
+entries-below size zero at s b = below-nil
+entries-below size (suc count) at s b =
+    below-cons (number size at s) (entries size count (at + size) s) (little-below size (drop at s) (below-drop at s b)) (entries-below size count (at + size) s b)
+
+fits : Fits
+fits s b = (entries-below 8 (numbers s .words) (numbers s .wordsAt) s b, entries-below 4 (numbers s .records) (numbers s .recordsAt) s b)
+
+-- ---- the demands
+
+can-meet : (W : Width) → CanMeet W
+can-meet W s room = ten-last (run (W .bits) (samplePlan W (numbers s .records) (numbers s .k)) (wordsOf s) 0) (1 ∷ 3 ∷ 6 ∷ [])
+
+demand1 : (W : Width) → Demand1 W (seenSheet W)
+unfolding runSheet
+demand1 W s lent b =
+    as-refused (λ o. (shownDrawn s o, left lent o)) (λ o. (shownDrawn s o, lent)) (λ (x : Drawn × List ℕ). x .0 .no) (λ n b. refl) (λ n b. refl) _ refl
+    (sheetRefusals W s (length lent)) (seenSheet W s lent) refl
+
+-- a start of 0 is never above the number of words
+from-zero : (L : ℕ) (plan : List (List ℕ)) (words : List ℕ) → Allowed (noWord (run L plan words 0) ∷ []) → Allowed (ofWords L plan words 0)
+from-zero L plan words a = ap (λ (x : Refusal). x .applies) (first-past (no 9 (ltb (length words) 0)) _ (le-ltb (length words) 0 zero-le)) ∙ a
+
+module _ (g : GoodWidth w64) (s lent : List ℕ) (a : Allowed (sheetRefusals w64 s (length lent))) where
+  abbrev k : ℕ
+  k = numbers s .k
+
+  abbrev xs : List ℕ
+  xs = recordsOf s
+
+  abbrev plan : List (List ℕ)
+  plan = samplePlan w64 (numbers s .records) k
+
+  count : length xs ≡ numbers s .records
+  count = entries-length 4 (numbers s .records) (numbers s .recordsAt) s
+
+  few : numbers s .records ≤ maxRecords
+  few = let v = sound-known s (not-false (isSound s) (allowed-cons _ _ a .0)) in omega (arith, sheet-records s v, count)
+
+  size : k ≤ length xs
+  size =
+      let e = allowed-cons _ _ (allowed-cons _ _ a .1) .0 in
+      rw count (ltb-false (numbers s .records) k (or-right (ltb k 1) (ltb (numbers s .records) k) (or-left (outside 1 (numbers s .records) k) _ e)))
+
+  words-left : Allowed (ofWords 64 plan (wordsOf s) 0)
+  words-left = from-zero 64 plan (wordsOf s) (allowed-cons _ _ (allowed-cons _ _ (allowed-cons _ _ a .1) .1) .1)
+
+  rollable : RollablePlan (2 ^ 64) plan
+  rollable = plan-fits w64 g (numbers s .records) k few .rollable
+
+  draws : Bytes s → Draws w64 s lent (seenSheet w64 s lent)
+  unfolding runSheet
+  draws b =
+      let ran = allowed-done (sheetRefusals w64 s (length lent)) (sampled w64 (wordsOf s) 0 xs k) a in
+      let n = sample-length xs (rollsOf 64 plan (trace (run 64 plan (wordsOf s) 0))) k size in
+      rw (ran, count) (record {
+        sample = record { none = (refl, refl); method = by-method 64 plan (wordsOf s) 0 words-left rollable (fits s b .0) _ (rw n refl) };
+        six = refl;
+      })
+
+demand2 : Demand2 w64 (seenSheet w64)
+demand2 s lent b a = draws good64 s lent a b
+
+settled : Settled w64
+settled a b a1 a2 b1 b2 s lent bytes =
+    settle (sheetRefusals w64 s (length lent)) (λ o. (shownDrawn s o, lent)) (λ (x : Drawn × List ℕ). x .0 .no)
+    (numbered-no 1 _ _ (lit< tt) (numbered-no 3 _ _ (lit< tt) (numbered-no 6 _ _ (lit< tt) (numbered-word (run 64 (samplePlan w64 (numbers s .records) (numbers s .k)) (wordsOf s) 0)))))
+    (a s lent) (b s lent) (a1 s lent bytes) (b1 s lent bytes) (λ al.
+    let k : ℕ = numbers s .k in
+    let x = a2 s lent bytes al in
+    let y = b2 s lent bytes al in
+    let same = same-seen 64 (samplePlan w64 (numbers s .records) k) (wordsOf s) (rollable good64 s lent al) (fits s bytes .0) 0
+    (λ rs. reservoir (take k (recordsOf s)) (drop k (recordsOf s)) rs ++ drop k lent) _ _ (x .sample) (y .sample) in
+    let drawn = x .six ∙ ap (λ (z : Answer × List ℕ). drawnBy s (z .0 .next) (z .0 .rejected)) same ∙ sym (y .six) in
+    let after = ap (λ (z : Answer × List ℕ). z .1) same in
+    λ i. (drawn i, after i))
+
+-- a sheet of no word and one record, k = 1, w = 0
+small-sheet : List ℕ
+small-sheet =
+    0 ∷ 0 ∷ 0 ∷ 0 ∷ 24 ∷ 0 ∷ 0 ∷ 0 ∷ 1 ∷ 0 ∷ 0 ∷ 0 ∷ 24 ∷ 0 ∷ 0 ∷ 0 ∷ 1 ∷ 0 ∷ 0 ∷ 0 ∷ 0 ∷ 0 ∷ 0 ∷ 0 ∷ 7 ∷ 0 ∷ 0 ∷ 0 ∷ []
+
+small-bytes : Bytes small-sheet
+unfolding small-sheet allBelow
+small-bytes = all-below 256 small-sheet tt
+
+stand-ins : StandIns w64
+unfolding firstOf runFrom cut countup little entries small-sheet
+stand-ins = record {
+  refuses = λ op r d. r small-sheet (0 ∷ []) small-bytes (d small-sheet (0 ∷ []) small-bytes refl .sample .none .0);
+}
+
+pub promise : Promise w64
+promise = record {
+  numbers = can-meet w64;
+  sound = sound-iff;
+  fits = fits;
+  demand1 = demand1 w64;
+  demand2 = demand2;
+  settled = settled;
+  stand-ins = stand-ins;
+}

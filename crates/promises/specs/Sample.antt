@@ -1,0 +1,77 @@
+-- The sample: demands 1 and 2 of it, that they settle its answer and the lent list, its stand-ins, and that every record can come up.
+--
+--   Op                                            the operation as its caller observes it: words, start, records, k, the lent list of slots
+--   Numbers W                                     the numbers that it can meet, as document 01 lists them
+--   Refuses, Gives W words start xs k lent got    demands 1 and 2, of one call and what the caller got: the reservoir with the method's
+--                                                 rolls, in front of the rest of the lent list
+--   Demand1 W op, Demand2 W op                    the demands, on every call
+--   Bounds W                                      batch after batch the bounds are k + 1, .., n, and each batch can be rolled
+--   Settled W, StandIns W, Promise W              as of one batch
+use mathlib.Core.Path.{_≡_}
+use mathlib.Core.Logic.{_≢_}
+use mathlib.Core.List.{List, [], _∷_, _++_}
+use Prim.Native.Nat.{ℕ, _+_, _-_, _≤_}
+use lib.ListN.{length, take, drop}
+use Rattle.rules.specs.Limits.{maxRecords}
+use Rattle.rules.specs.Plan.{PlanOf}
+use Rattle.rules.specs.Reservoir.{countup, reservoir}
+use Rattle.rules.specs.Width.{Width}
+use Rattle.answers.specs.Outcome.{shown}
+use Rattle.answers.specs.declared.answer.Answer.{Answer}
+use Rattle.draws.specs.Sample.{samplePlan, sampleRefusals, seenSample}
+use Rattle.promises.specs.Demand1.{Callable, AsRefused, numbersOf}
+use Rattle.promises.specs.Demand2.{Allowed, ByMethod}
+
+abbrev pub Op : Type 0
+Op = List ℕ → ℕ → List ℕ → ℕ → List ℕ → Answer × List ℕ
+
+abbrev pub Numbers : Width → Type 0
+Numbers W = (words : List ℕ) (start n k room : ℕ) → numbersOf (sampleRefusals W words start n k room) ≡ 2 ∷ 3 ∷ 6 ∷ 9 ∷ 10 ∷ []
+
+abbrev pub Refuses : Width → List ℕ → ℕ → List ℕ → ℕ → List ℕ → Answer × List ℕ → Type 0
+Refuses W words start xs k lent got =
+    AsRefused (sampleRefusals W words start (length xs) k (length lent)) (λ o. (shown start o, lent)) (got .0 .no) got
+
+abbrev pub Gives : Width → List ℕ → ℕ → List ℕ → ℕ → List ℕ → Answer × List ℕ → Type 0
+Gives W words start xs k lent got = Allowed (sampleRefusals W words start (length xs) k (length lent))
+    → ByMethod (W .bits) (samplePlan W (length xs) k) words start (λ rs. reservoir (take k xs) (drop k xs) rs ++ drop k lent) got
+
+abbrev pub Demand1 : Width → Op → Type 0
+Demand1 W op = (words : List ℕ) (start : ℕ) (xs : List ℕ) (k : ℕ) (lent : List ℕ) → Callable (W .bits) words
+    → Refuses W words start xs k lent (op words start xs k lent)
+
+abbrev pub Demand2 : Width → Op → Type 0
+Demand2 W op = (words : List ℕ) (start : ℕ) (xs : List ℕ) (k : ℕ) (lent : List ℕ) → Callable (W .bits) words
+    → Gives W words start xs k lent (op words start xs k lent)
+
+abbrev pub Bounds : Width → Type 0
+Bounds W = (n k : ℕ) → n ≤ maxRecords → PlanOf (W .limit) (countup (n - k) (k + 1)) (samplePlan W n k)
+
+abbrev pub Settled : Width → Type 0
+Settled W = (a b : Op) → Demand1 W a → Demand2 W a → Demand1 W b → Demand2 W b
+    → (words : List ℕ) (start : ℕ) (xs : List ℕ) (k : ℕ) (lent : List ℕ) → Callable (W .bits) words
+    → a words start xs k lent ≡ b words start xs k lent
+
+pub record StandIns (W : Width) : Type 0 where
+  -- refusing every call
+  pub refuses : (op : Op)
+      → ((words : List ℕ) (start : ℕ) (xs : List ℕ) (k : ℕ) (lent : List ℕ) → Callable (W .bits) words → op words start xs k lent .0 .no ≢ 0)
+      → ¬ Demand2 W op
+  -- fixed rolls: slots made up without a look at the words, as that the first k always win
+  pub fixed : (op : Op) (made : ℕ → ℕ → List ℕ → ℕ → List ℕ → List ℕ)
+      → ((words : List ℕ) (start : ℕ) (xs : List ℕ) (k : ℕ) (lent : List ℕ) → op words start xs k lent .0 .no ≡ 0
+      → op words start xs k lent .1 ≡ made (length words) start xs k lent)
+      → ¬ Demand2 W op
+  -- an invented rejected count
+  pub invented : (op : Op) (made : ℕ → ℕ → List ℕ → ℕ → List ℕ → ℕ)
+      → ((words : List ℕ) (start : ℕ) (xs : List ℕ) (k : ℕ) (lent : List ℕ) → op words start xs k lent .0 .no ≡ 0
+      → op words start xs k lent .0 .rejected ≡ made (length words) start xs k lent)
+      → ¬ Demand2 W op
+
+pub record Promise (W : Width) : Type 0 where
+  pub numbers : Numbers W
+  pub demand1 : Demand1 W (seenSample W)
+  pub demand2 : Demand2 W (seenSample W)
+  pub bounds : Bounds W
+  pub settled : Settled W
+  pub stand-ins : StandIns W
