@@ -17,6 +17,12 @@ ghost use Rattle.runs.specs.Behind.{seenBehind};
 ghost use Rattle.orders.specs.Order.{seenOrder};
 ghost use Rattle.sheet.specs.Operations.{seenSheet};
 ghost use Rattle.promises.specs.Batch as batch;
+ghost use Rattle.promises.specs.List as list;
+ghost use Rattle.promises.specs.Shuffle as shuffle;
+ghost use Rattle.promises.specs.Sample as sample;
+ghost use Rattle.promises.specs.Behind as behind;
+ghost use Rattle.promises.specs.Order as order_;
+ghost use Rattle.promises.specs.Sheet as sheet_;
 
 #[no_mangle]
 pub extern "C" fn hildrasp_roll_batch(words: &[u64], start: usize, bounds: &[u64]) -> Batch
@@ -35,6 +41,7 @@ pub extern "C" fn hildrasp_roll_list(
 ) -> Answer
     ensures answer { λ r. ⌜ r ≡ seenList w64 (now (words .entry)) start (now (bounds .entry)) (now (rolls .entry)) .0 ⌝ }
     ensures rolls { λ r. ⌜ now (rolls .exit) ≡ seenList w64 (now (words .entry)) start (now (bounds .entry)) (now (rolls .entry)) .1 ⌝ }
+    ensures demands { λ r. ⌜ list.Refuses w64 (now (words .entry)) start (now (bounds .entry)) (now (rolls .entry)) (r, now (rolls .exit)) × list.Gives w64 (now (words .entry)) start (now (bounds .entry)) (now (rolls .entry)) (r, now (rolls .exit)) ⌝ }
 {
     lists::list::roll_list(words, start, bounds, rolls)
 }
@@ -43,6 +50,7 @@ pub extern "C" fn hildrasp_roll_list(
 pub extern "C" fn hildrasp_shuffle(words: &[u64], start: usize, records: &mut [u32]) -> Answer
     ensures answer { λ r. ⌜ r ≡ seenShuffle w64 (now (words .entry)) start (now (records .entry)) .0 ⌝ }
     ensures records { λ r. ⌜ now (records .exit) ≡ seenShuffle w64 (now (words .entry)) start (now (records .entry)) .1 ⌝ }
+    ensures demands { λ r. ⌜ shuffle.Refuses w64 (now (words .entry)) start (now (records .entry)) (r, now (records .exit)) × shuffle.Gives w64 (now (words .entry)) start (now (records .entry)) (r, now (records .exit)) ⌝ }
 {
     shuffles::shuffle::shuffle_records(words, start, records)
 }
@@ -57,13 +65,15 @@ pub extern "C" fn hildrasp_sample(
 ) -> Answer
     ensures answer { λ r. ⌜ r ≡ seenSample w64 (now (words .entry)) start (now (records .entry)) k (now (slots .entry)) .0 ⌝ }
     ensures slots { λ r. ⌜ now (slots .exit) ≡ seenSample w64 (now (words .entry)) start (now (records .entry)) k (now (slots .entry)) .1 ⌝ }
+    ensures demands { λ r. ⌜ sample.Refuses w64 (now (words .entry)) start (now (records .entry)) k (now (slots .entry)) (r, now (slots .exit)) × sample.Gives w64 (now (words .entry)) start (now (records .entry)) k (now (slots .entry)) (r, now (slots .exit)) ⌝ }
 {
     draws::sample::sample_records(words, start, records, k, slots)
 }
 
 #[no_mangle]
 pub extern "C" fn hildrasp_words_behind(bounds: &[u64], rolls: &[u64]) -> Behind
-    ensures { λ r. ⌜ r ≡ seenBehind w64 (now (bounds .entry)) (now (rolls .entry)) ⌝ }
+    ensures answer { λ r. ⌜ r ≡ seenBehind w64 (now (bounds .entry)) (now (rolls .entry)) ⌝ }
+    ensures demands { λ r. ⌜ behind.Refuses w64 (now (bounds .entry)) (now (rolls .entry)) r × behind.Gives w64 (now (bounds .entry)) (now (rolls .entry)) r ⌝ }
 {
     runs::behind::words_behind(bounds, rolls)
 }
@@ -72,6 +82,7 @@ pub extern "C" fn hildrasp_words_behind(bounds: &[u64], rolls: &[u64]) -> Behind
 pub extern "C" fn hildrasp_rolls_behind(order: &[u32], rolls: &mut [u64]) -> Answer
     ensures answer { λ r. ⌜ r ≡ seenOrder (now (order .entry)) (now (rolls .entry)) .0 ⌝ }
     ensures rolls { λ r. ⌜ now (rolls .exit) ≡ seenOrder (now (order .entry)) (now (rolls .entry)) .1 ⌝ }
+    ensures demands { λ r. ⌜ order_.Refuses (now (order .entry)) (now (rolls .entry)) (r, now (rolls .exit)) × order_.Gives (now (order .entry)) (now (rolls .entry)) (r, now (rolls .exit)) ⌝ }
 {
     orders::order::rolls_behind(order, rolls)
 }
@@ -80,6 +91,7 @@ pub extern "C" fn hildrasp_rolls_behind(order: &[u32], rolls: &mut [u64]) -> Ans
 pub extern "C" fn hildrasp_run_sheet(sheet: &[u8], slots: &mut [u32]) -> Drawn
     ensures answer { λ r. ⌜ r ≡ seenSheet w64 (now (sheet .entry)) (now (slots .entry)) .0 ⌝ }
     ensures slots { λ r. ⌜ now (slots .exit) ≡ seenSheet w64 (now (sheet .entry)) (now (slots .entry)) .1 ⌝ }
+    ensures demands { λ r. ⌜ sheet_.Refuses w64 (now (sheet .entry)) (now (slots .entry)) (r, now (slots .exit)) × sheet_.Gives w64 (now (sheet .entry)) (now (slots .entry)) (r, now (slots .exit)) ⌝ }
 {
     sheet::run::run_sheet(sheet, slots)
 }

@@ -55,7 +55,7 @@ loop-again c = let turn = c .before .before .before .before in
       search needs,
       turn .loop .inv .3,
       sym (find-miss (passes 64 (unwrap 64 (a .b))) (a .words .now) (turn .loop .at) here
-      (passes-tested 64 (a .b) _ _ _ _ (turn .loop .inv .3) (c .before .low .ensures) (lt-leb _ _ (c .if2 .left)))) ∙ turn .loop .inv .4,
+          (passes-tested 64 (a .b) _ _ _ _ (turn .loop .inv .3) (c .before .low .ensures) (lt-leb _ _ (c .if2 .left)))) ∙ turn .loop .inv .4,
     )
 
 returns : tie.Need-returns Inv-loop μ-loop
