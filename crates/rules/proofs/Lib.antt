@@ -5,6 +5,12 @@ pub mod Exchanging
 pub mod Facts
 pub mod Finding
 pub mod Orders
+pub mod Pinned
+pub mod PinnedCut
+pub mod PinnedOrder
+pub mod PinnedReservoir
+pub mod PinnedShuffle
+pub mod PinnedSizes
 pub mod Products
 pub mod Range
 pub mod Reach

@@ -1,6 +1,7 @@
 pub mod Cut
 pub mod Limits
 pub mod Order
+pub mod Pinned
 pub mod Plan
 pub mod Reservoir
 pub mod Rolls

@@ -29,7 +29,7 @@ eachOnce (suc i) ys = eqb (count i ys) 1 && eachOnce i ys
 abbrev pub isOrder : List ℕ → Bool
 isOrder ys = eachOnce (length ys) ys
 
--- the length of xs where there is none
+-- Never met: x does not stand in xs. The value there, the length, is arbitrary.
 unfoldable pub placeOf : ℕ → List ℕ → ℕ
 placeOf x [] = 0
 placeOf x (y ∷ ys) = elim (eqb x y) [ true ↦ 0 | false ↦ placeOf x ys + 1 ]

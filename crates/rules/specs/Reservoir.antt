@@ -13,6 +13,7 @@ countup zero i = []
 countup (suc s) i = i ∷ countup s (i + 1)
 
 -- If j is below the number of slots, slot j gets the record.
+-- Never met: fewer or more rolls than later records. The value there is arbitrary.
 unfoldable pub reservoir : List ℕ → List ℕ → List ℕ → List ℕ
 reservoir slots [] js = slots
 reservoir slots (x ∷ xs) [] = slots

@@ -46,6 +46,7 @@ inRange [] (r ∷ rs) = false
 inRange (b ∷ bs) [] = false
 inRange (b ∷ bs) (r ∷ rs) = ltb r b && inRange bs rs
 
+-- Never met: fewer or more rolls than bounds. The value there is arbitrary.
 unfoldable pub value : List ℕ → List ℕ → ℕ
 value [] rs = 0
 value (b ∷ bs) [] = 0

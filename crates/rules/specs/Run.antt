@@ -51,10 +51,12 @@ abbrev pub suffices : Run → Bool
 suffices (ran ts) = true
 suffices (short batch) = false
 
+-- Never met: the trace of a run that is short, which is refused. The value there is arbitrary.
 abbrev pub trace : Run → List Taken
 trace (ran ts) = ts
 trace (short batch) = []
 
+-- Never met: fewer or more words than batches. The value there is arbitrary.
 unfoldable pub rollsOf : ℕ → List (List ℕ) → List Taken → List ℕ
 rollsOf L [] ts = []
 rollsOf L (bs ∷ plan) [] = []

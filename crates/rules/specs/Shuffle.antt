@@ -28,6 +28,7 @@ abbrev pub shuffleBounds : ℕ → List ℕ
 shuffleBounds n = countdown (n - 1) n
 
 -- With 0 or 1 record still to place it is finished. Each batch places a record or more, so n batches are fuel enough for n records.
+-- Never met: no fuel, and 2 or more records still to place. The value there is arbitrary.
 unfoldable pub shufflePlanFrom : (ℕ → ℕ) → ℕ → ℕ → List (List ℕ)
 shufflePlanFrom size zero m = []
 shufflePlanFrom size (suc fuel) m =
