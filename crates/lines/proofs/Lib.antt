@@ -1,1 +1,3 @@
+pub mod Pinned
+pub mod Printing
 pub mod Spelling

@@ -1,83 +1,72 @@
--- The bytes of a line, put into a lent list one field after the other. Assumes nothing.
+-- Bytes put into a lent list one after the other: a text, a number, the fields of a line. Assumes nothing.
 --
---   decimal-longer   a number from 10 on has one digit more than its tenth
+--   decimal-one      a number below 10 is one digit
+--   decimal-more     a number from 10 on is its tenth and one digit more
+--   decimal-longer   so that it has one digit more than its tenth
+--   digit-count      how many digits a number has at most
 --   pasted           a text that is pasted whole is put
 --   spelled-room     there is room for a number below 10, where there is for its digits
 --   spelled-one      a number below 10 is spelled by one digit
 --   spelled-more     a number from 10 on is spelled by the digits of its tenth, and one more behind them
 --   blank-first      a blank, and bytes behind it
---   first-refused    the first line of a refusal
---   first-drawn      the first line of a draw that was done
---   SoFar            a line, as far as it is written
---   line-none        a line of which nothing is written
---   line-room        a line has room for a text behind it
---   line-more        a line with a text behind it
---   line-field-room  a line has room for a blank and a number behind it
---   line-field-more  a line with a blank and a number behind it
---   line-first-room  a line has room for a number in front of all
---   line-first-more  a line that starts with a number
---   line-done        a line that is written whole, in the words of the contracts
---   line-within      a line at the front of a list is within it
---   line-count       a line at the front of a list is as long as the part that it takes of it
+--   SoFar            bytes, as far as they are written, and those that are left
+--   none-yet         nothing is written
+--   next-room, next-written    there is room for the next bytes of those that are left; they are written
+--   last-room, all-written     there is room for the last bytes; they are written
+--   none-left        nothing is left
+--   same-left        what is left, in other words
+--   same-list        the list is as long as it was
 use mathlib.Core.Path.{_≡_, refl, sym, ap, ap₂, _∙_}
 use mathlib.Core.Bool.{Bool, true, false}
-use mathlib.Core.List.{List, [], _∷_, _++_, append-assoc}
+use mathlib.Core.List.{List, [], _∷_, _++_, append-assoc, append-nil}
 use Prim.Native.Nat.{ℕ, zero, suc, _+_, _/_, _%_, _^_, _<_, _≤_}
-use native.Mathlib.Nat.{not-suc-le-zero, pow-suc}
+use native.Mathlib.Nat.{pow-suc}
 use native.Mathlib.Numerals.{add-one}
 use native.Mathlib.Omega.{arith}
 use lib.Dec.{ltb}
-use lib.ListN.{length, take, drop, set, length-append, take-append-drop}
-use lib.Seq.{take-length, length-take-le, set-split, paste}
-use borrow.Author.Tests.{lt-ltb, le-ltb, ltb-true, ltb-false, ne-eqb}
+use lib.ListN.{length, set, length-append, take-append-drop}
+use lib.Seq.{take-length, set-split, paste}
+use borrow.Author.Tests.{lt-ltb, le-ltb, ltb-true, ltb-false}
 use Rattle.rules.proofs.Writing.{drop-more, wrote-front, wrote-back, wrote-length}
-use Rattle.lines.specs.Text.{digits, decimal, drawLine, refusedLine, firstLine}
-use Rattle.lines.specs.Inner.{put}
-use Rattle.sheet.specs.declared.run.Drawn.{Drawn}
-
--- ---- the first line
-
-module _ (d : Drawn) where
-  pub first-refused : (d .no ≡ 0 → ⊥) → firstLine d ≡ refusedLine (d .no) (d .batch)
-  first-refused h = rw (ne-eqb (d .no) 0 h, firstLine)
-
-  pub first-drawn : d .no ≡ 0 → firstLine d ≡ drawLine (d .records) (d .k) (d .next) (d .rejected)
-  first-drawn e = rw (e, firstLine)
+use Rattle.lines.specs.Text.{digit, digits, decimal}
+use Rattle.lines.specs.Inner.{put, Room, Written}
 
 -- ---- a number in decimal
 
-digits-one : (c n : ℕ) → n < 10 → digits (suc c) n ≡ (48 + n) ∷ []
+digits-one : (c n : ℕ) → n ≤ c → n < 10 → digits c n ≡ digit n ∷ []
 unfolding digits
-digits-one c n h = rw (lt-ltb n 10 h, digits)
+digits-one zero n h k = let e : n ≡ 0 = omega arith in rw e
+digits-one (suc c) n h k = rw (lt-ltb n 10 k, digits)
 
-digits-more : (c n : ℕ) → 10 ≤ n → digits (suc c) n ≡ digits c (n / 10) ++ (48 + n % 10) ∷ []
+digits-more : (c n : ℕ) → 10 ≤ n → digits (suc c) n ≡ digits c (n / 10) ++ digit (n % 10) ∷ []
 unfolding digits
 digits-more c n h = rw (le-ltb n 10 h, digits)
 
--- more turns than digits change nothing
-digits-same : (c d n : ℕ) → n < c → n < d → digits c n ≡ digits d n
-digits-same zero d n h k = absurd (not-suc-le-zero h)
-digits-same (suc c) zero n h k = absurd (not-suc-le-zero k)
+-- the count in front, which n does not pass, changes nothing
+digits-same : (c d n : ℕ) → n ≤ c → n ≤ d → digits c n ≡ digits d n
+digits-same zero d n h k = digits-one zero n h (omega arith) ∙ sym (digits-one d n k (omega arith))
+digits-same (suc c) zero n h k = digits-one (suc c) n h (omega arith) ∙ sym (digits-one zero n k (omega arith))
 digits-same (suc c) (suc d) n h k = go (ltb n 10) refl (digits-same c d (n / 10))
   where
-    go : (b : Bool) → ltb n 10 ≡ b → (n / 10 < c → n / 10 < d → digits c (n / 10) ≡ digits d (n / 10)) → digits (suc c) n ≡ digits (suc d) n
-    go true e f = digits-one c n (ltb-true _ _ e) ∙ sym (digits-one d n (ltb-true _ _ e))
+    go : (b : Bool) → ltb n 10 ≡ b → (n / 10 ≤ c → n / 10 ≤ d → digits c (n / 10) ≡ digits d (n / 10)) → digits (suc c) n ≡ digits (suc d) n
+    go true e f = digits-one (suc c) n h (ltb-true _ _ e) ∙ sym (digits-one (suc d) n k (ltb-true _ _ e))
     go false e f =
         let l : 10 ≤ n = ltb-false _ _ e in
-        digits-more c n l ∙ ap (λ (ds : List ℕ). ds ++ (48 + n % 10) ∷ []) (f (omega arith) (omega arith)) ∙ sym (digits-more d n l)
+        digits-more c n l ∙ ap (λ (ds : List ℕ). ds ++ digit (n % 10) ∷ []) (f (omega arith) (omega arith)) ∙ sym (digits-more d n l)
 
-decimal-one : (n : ℕ) → n < 10 → decimal n ≡ (48 + n) ∷ []
-decimal-one n h = rw add-one (digits-one n n h)
+pub decimal-one : (n : ℕ) → n < 10 → decimal n ≡ digit n ∷ []
+decimal-one n h = digits-one n n (omega arith) h
 
-decimal-more : (n : ℕ) → 10 ≤ n → decimal n ≡ decimal (n / 10) ++ (48 + n % 10) ∷ []
-decimal-more n h =
-    ap (λ (c : ℕ). digits c n) (add-one n) ∙ digits-more n n h
-    ∙ ap (λ (ds : List ℕ). ds ++ (48 + n % 10) ∷ []) (digits-same n (n / 10 + 1) (n / 10) (omega arith) (omega arith))
+pub decimal-more : (n : ℕ) → 10 ≤ n → decimal n ≡ decimal (n / 10) ++ digit (n % 10) ∷ []
+decimal-more zero h = absurd (omega arith)
+decimal-more (suc m) h =
+    digits-more m (suc m) h
+    ∙ ap (λ (ds : List ℕ). ds ++ digit (suc m % 10) ∷ []) (digits-same m (suc m / 10) (suc m / 10) (omega arith) (omega arith))
 
 pub decimal-longer : (n : ℕ) → 10 ≤ n → length (decimal n) ≡ length (decimal (n / 10)) + 1
 decimal-longer n h = ap length (decimal-more n h) ∙ length-append (decimal (n / 10)) _
 
-digit-count : (k n : ℕ) → n < 10 ^ suc k → length (decimal n) ≤ suc k
+pub digit-count : (k n : ℕ) → n < 10 ^ suc k → length (decimal n) ≤ suc k
 digit-count zero n h = rw (decimal-one n h) (omega arith)
 digit-count (suc k) n h = go (ltb n 10) refl (digit-count k (n / 10))
   where
@@ -87,9 +76,6 @@ digit-count (suc k) n h = go (ltb n 10) refl (digit-count k (n / 10))
         let m : n / 10 < 10 ^ suc k = omega (arith, pow-suc 10 (suc k)) in
         omega (arith, decimal-longer n (ltb-false _ _ e), f m)
 
-decimal-length : (n : ℕ) → n < 2 ^ 64 → length (decimal n) ≤ 20
-decimal-length n h = digit-count 19 n (omega arith)
-
 -- ---- bytes at a place of a list: `put out at bs` is what Writing calls `wrote`
 
 put-none : (out : List ℕ) (at : ℕ) → put out at [] ≡ out
@@ -98,7 +84,7 @@ put-none out at = let e : at + 0 ≡ at = omega arith in rw e (take-append-drop 
 put-first : (out : List ℕ) (at b : ℕ) → at < length out → set out at b ≡ put out at (b ∷ [])
 put-first out at b h = rw (add-one at) (set-split out at b h)
 
-module _ (out : List ℕ) (at : ℕ) (bs : List ℕ) (h : at + length bs ≤ length out) where
+module _ (out : List ℕ) (at : ℕ) (bs : List ℕ) (h : Room out at bs) where
   put-length : length (put out at bs) ≡ length out
   put-length = wrote-length out bs at h
 
@@ -113,10 +99,6 @@ module _ (out : List ℕ) (at : ℕ) (bs : List ℕ) (h : at + length bs ≤ len
   put-one : (b : ℕ) → at + length bs < length out → set (put out at bs) (at + length bs) b ≡ put out at (bs ++ b ∷ [])
   put-one b l = put-first (put out at bs) (at + length bs) b (rw put-length l) ∙ put-put (b ∷ [])
 
--- the bytes bs were put at a place, and to is the place after them
-abbrev Written : List ℕ → ℕ → List ℕ → List ℕ → ℕ → Type 0
-Written out at bs last to = (to ≡ at + length bs) × (last ≡ put out at bs)
-
 -- ---- a text, byte by byte: the loop's copy is the kit's `paste`
 
 pub pasted : (out text : List ℕ) (at i : ℕ) → i ≡ length text → paste out at text i ≡ put out at text
@@ -124,91 +106,83 @@ pasted out text at i e = rw (e, take-length, append-assoc)
 
 -- ---- a number, digit by digit
 
-module _ (n : ℕ) (out : List ℕ) (at : ℕ) (room : at + length (decimal n) ≤ length out) where
+module _ (n : ℕ) (out : List ℕ) (at : ℕ) (room : Room out at (decimal n)) where
   module _ (h : n < 10) where
     pub spelled-room : at < length out
     spelled-room = omega (arith, ap length (decimal-one n h))
 
-    pub spelled-one : Written out at (decimal n) (set out at (48 + n)) (at + 1)
-    spelled-one = (omega (arith, ap length (decimal-one n h)), put-first out at (48 + n) spelled-room ∙ ap (put out at) (sym (decimal-one n h)))
+    pub spelled-one : Written out at (decimal n) (set out at (digit n)) (at + 1)
+    spelled-one = (omega (arith, ap length (decimal-one n h)), put-first out at (digit n) spelled-room ∙ ap (put out at) (sym (decimal-one n h)))
 
   module _ (h : 10 ≤ n) where
     pub spelled-more : (last : List ℕ) (end : ℕ) → Written out at (decimal (n / 10)) last end
-        → Written out at (decimal n) (set last end (48 + n % 10)) (end + 1)
+        → Written out at (decimal n) (set last end (digit (n % 10))) (end + 1)
     spelled-more last end e =
         let l = decimal-longer n h in (
           omega arith,
-          ap₂ (λ (l : List ℕ) (m : ℕ). set l m (48 + n % 10)) (e .1) (e .0)
-              ∙ put-one out at (decimal (n / 10)) (omega arith) (48 + n % 10) (omega arith) ∙ ap (put out at) (sym (decimal-more n h)),
+          ap₂ (λ (l : List ℕ) (m : ℕ). set l m (digit (n % 10))) (e .1) (e .0)
+              ∙ put-one out at (decimal (n / 10)) (omega arith) (digit (n % 10)) (omega arith) ∙ ap (put out at) (sym (decimal-more n h)),
         )
 
 -- a blank in front of it
-pub blank-first : (out last : List ℕ) (at to : ℕ) (bs : List ℕ) → at + length (32 ∷ bs) ≤ length out → Written (set out at 32) (at + 1) bs last to
+pub blank-first : (out last : List ℕ) (at to : ℕ) (bs : List ℕ) → Room out at (32 ∷ bs) → Written (set out at 32) (at + 1) bs last to
     → Written out at (32 ∷ bs) last to
 blank-first out last at to bs h e =
     (omega arith, e .1 ∙ ap (λ (l : List ℕ). put l (at + 1) bs) (put-first out at 32 (omega arith)) ∙ put-put out at (32 ∷ []) (omega arith) bs)
 
--- ---- a line, field by field
+-- ---- bytes, part by part
 
--- the bytes bs, at most so many, are written at the front of a list of 96 or more, and the rest of it is as it was
-pub record SoFar (most : ℕ) (out₀ out : List ℕ) (at : ℕ) (bs : List ℕ) : Type 0 where
-  pub long : 96 ≤ length out₀
-  pub short : at ≤ most
-  pub same : length out ≡ length out₀
-  pub place : at ≡ length bs
-  pub bytes : out ≡ put out₀ 0 bs
+-- the bytes bs are to be put at a place of the list out₀; of them the rest is left, to be put at a place of the list out
+pub record SoFar (out₀ : List ℕ) (at₀ : ℕ) (bs out : List ℕ) (at : ℕ) (rest : List ℕ) : Type 0 where
+  pub room : Room out₀ at₀ bs
+  pub front : List ℕ
+  pub parts : bs ≡ front ++ rest
+  pub written : Written out₀ at₀ front out at
 
-pub line-none : (out₀ : List ℕ) → 96 ≤ length out₀ → SoFar 0 out₀ out₀ 0 []
-line-none out₀ h = record { long = h; short = omega arith; same = refl; place = refl; bytes = sym (put-none out₀ 0) }
+module _ {out₀ : List ℕ} {at₀ : ℕ} {bs : List ℕ} where
+  pub none-yet : Room out₀ at₀ bs → SoFar out₀ at₀ bs out₀ at₀ bs
+  none-yet h = record { room = h; front = []; parts = refl; written = (omega arith, sym (put-none out₀ at₀)) }
 
-module _ {most : ℕ} {out₀ out : List ℕ} {at : ℕ} {bs : List ℕ} (v : SoFar most out₀ out at bs) where
-  -- further bytes, at most so many
-  module _ (size : ℕ) (cs : List ℕ) (f : length cs ≤ size) (h : most + size ≤ 96) where
-    bytes-room : at + length cs ≤ length out
-    bytes-room = omega arith
+  pub none-left : {out : List ℕ} {at : ℕ} → SoFar out₀ at₀ bs out at [] → Written out₀ at₀ bs out at
+  none-left v =
+      let e : v .front ≡ bs = sym (v .parts ∙ append-nil (v .front)) in
+      (v .written .0 ∙ ap (λ (l : List ℕ). at₀ + length l) e, v .written .1 ∙ ap (put out₀ at₀) e)
 
-    bytes-more : {last : List ℕ} {to : ℕ} → Written out at cs last to → SoFar (most + size) out₀ last to (bs ++ cs)
-    bytes-more {last = last} {to = to} e =
-        let n : at ≡ 0 + length bs = omega arith in
-        let l : last ≡ put out₀ 0 (bs ++ cs)
-        = e .1 ∙ ap₂ (λ (l : List ℕ) (m : ℕ). put l m cs) (v .bytes) n ∙ put-put out₀ 0 bs (omega arith) cs in
-        let k : length (bs ++ cs) ≡ length bs + length cs = length-append bs cs in
-        record { long = v .long; short = omega arith; same = ap length l ∙ put-length out₀ 0 (bs ++ cs) (omega arith); place = omega arith; bytes = l }
+  pub same-left : {out : List ℕ} {at : ℕ} {rest others : List ℕ} → rest ≡ others → SoFar out₀ at₀ bs out at rest → SoFar out₀ at₀ bs out at others
+  same-left e v = record { room = v .room; front = v .front; parts = v .parts ∙ ap (λ (l : List ℕ). v .front ++ l) e; written = v .written }
 
-  -- a text
-  module _ (text : List ℕ) (h : most + length text ≤ 96) where
-    pub line-room : at + length text ≤ length out
-    line-room = bytes-room (length text) text (omega arith) h
+  module _ {out : List ℕ} {at : ℕ} where
+    front-room : {rest : List ℕ} (v : SoFar out₀ at₀ bs out at rest) → at₀ + length (v .front) + length rest ≤ length out₀
+    front-room {rest = rest} v = omega (arith, v .room, ap length (v .parts), length-append (v .front) rest)
 
-    pub line-more : {last : List ℕ} {to : ℕ} → Written out at text last to → SoFar (most + length text) out₀ last to (bs ++ text)
-    line-more = bytes-more (length text) text (omega arith) h
+    pub same-list : {rest : List ℕ} → SoFar out₀ at₀ bs out at rest → length out ≡ length out₀
+    same-list v = ap length (v .written .1) ∙ put-length out₀ at₀ (v .front) (omega (arith, front-room v))
 
-  -- a blank and a number
-  module _ (n : ℕ) (f : n < 2 ^ 64) (h : most + 21 ≤ 96) where
-    pub line-field-room : at + length (32 ∷ decimal n) ≤ length out
-    line-field-room = bytes-room 21 (32 ∷ decimal n) (omega (arith, decimal-length n f)) h
+    module _ (cs rest : List ℕ) (v : SoFar out₀ at₀ bs out at (cs ++ rest)) where
+      pub next-room : Room out at cs
+      next-room = omega (arith, same-list v, front-room v, length-append cs rest, v .written .0)
 
-    pub line-field-more : {last : List ℕ} {to : ℕ} → Written out at (32 ∷ decimal n) last to → SoFar (most + 21) out₀ last to (bs ++ 32 ∷ decimal n)
-    line-field-more = bytes-more 21 (32 ∷ decimal n) (omega (arith, decimal-length n f)) h
+      pub next-written : {last : List ℕ} {to : ℕ} → Written out at cs last to → SoFar out₀ at₀ bs last to rest
+      next-written e =
+          let f = front-room v in
+          let n = length-append cs rest in
+          let k : length (v .front ++ cs) ≡ length (v .front) + length cs = length-append (v .front) cs in
+          record {
+            room = v .room;
+            front = v .front ++ cs;
+            parts = v .parts ∙ sym (append-assoc (v .front) cs rest);
+            written = (
+              omega (arith, e .0, v .written .0),
+              e .1 ∙ ap₂ (λ (l : List ℕ) (m : ℕ). put l m cs) (v .written .1) (v .written .0) ∙ put-put out₀ at₀ (v .front) (omega arith) cs,
+            );
+          }
 
-  pub line-done : (text : List ℕ) → bs ≡ text → (at ≡ length text) × (out ≡ text ++ drop at out₀)
-  line-done text e =
-      let n : 0 + length bs ≡ at = omega arith in
-      (v .place ∙ ap length e, v .bytes ∙ ap₂ (λ (l : List ℕ) (m : ℕ). l ++ drop m out₀) e n)
+    module _ (cs : List ℕ) (v : SoFar out₀ at₀ bs out at cs) where
+      abbrev ending : SoFar out₀ at₀ bs out at (cs ++ [])
+      ending = rw (append-nil cs) v
 
--- a number in front of all
-module _ (out₀ : List ℕ) (n : ℕ) (h : 96 ≤ length out₀) (f : n < 2 ^ 64) where
-  pub line-first-room : 0 + length (decimal n) ≤ length out₀
-  line-first-room = bytes-room (line-none out₀ h) 20 (decimal n) (decimal-length n f) (omega arith)
+      pub last-room : Room out at cs
+      last-room = next-room cs [] ending
 
-  pub line-first-more : {last : List ℕ} {to : ℕ} → Written out₀ 0 (decimal n) last to → SoFar 20 out₀ last to (decimal n)
-  line-first-more = bytes-more (line-none out₀ h) 20 (decimal n) (decimal-length n f) (omega arith)
-
--- ---- a line that is there: how much of the list it is
-
-module _ (text rest : List ℕ) {out : List ℕ} {r : ℕ} (e : (r ≡ length text) × (out ≡ text ++ rest)) where
-  pub line-within : r ≤ length out
-  line-within = rw (e .1) (rw length-append (omega arith))
-
-  pub line-count : r ≡ length (take r out)
-  line-count = sym (length-take-le r out line-within)
+      pub all-written : {last : List ℕ} {to : ℕ} → Written out at cs last to → Written out₀ at₀ bs last to
+      all-written e = none-left (next-written cs [] ending e)

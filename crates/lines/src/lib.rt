@@ -1,4 +1,4 @@
-// The lines that tell of the draw of a sheet.
+// The text that tells of the draw of a sheet.
 //
-// Contracts cite specs/: Text (the lines) and Inner.
+// Contracts cite specs/: Text (each line, and the whole output) and Inner. Pinned has sentences that the text meets.
 pub mod text;

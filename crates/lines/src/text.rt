@@ -1,19 +1,24 @@
-// The lines that the draw-sheet program prints, each written to the front of a lent list of bytes.
+// The text that the draw-sheet program prints, written into a lent list of bytes.
 use sheet::run::Drawn;
+use sheet::run::run_sheet;
 ghost use mathlib.Core.Path.{_≡_};
 ghost use mathlib.Core.List.{_∷_, _++_};
-ghost use Prim.Native.Nat.{_+_, _≤_, _<_, _^_};
+ghost use Prim.Native.Nat.{_+_, _*_, _≤_, _<_, _^_};
 ghost use lib.ListN.{length, drop};
-ghost use Rattle.lines.specs.Text.{decimal, drawLine, slotLine, refusedLine, firstLine};
-ghost use Rattle.lines.specs.Inner.{put};
+ghost use Rattle.lines.specs.Text.{decimal, drawLine, slotLine, refusedLine, firstLine, slotLines, output};
+ghost use Rattle.lines.specs.Inner.{Room, Written};
 
-// Room for any line: the longest, `draw` and four numbers of at most 20 digits, has 89 bytes.
-pub const LINE: usize = 96;
+// The slots that the program lends: no sheet has as many records.
+const SLOTS: usize = 16384;
+
+// Room for any output, 376,921 bytes: a first line of at most 89, `draw` and four numbers of at most 20 digits, and for each slot a line
+// of at most 23, its number of at most 5 digits, its record of at most 10, and `early`; with the blanks and line feeds.
+pub const OUTPUT: usize = 89 + 23 * SLOTS;
 
 // Writes the text from a place of the list on, and returns the place after it.
 fn put_text(text: &[u8], out: &mut [u8], at: usize) -> usize
-    requires { ⌜ at + length (now text) ≤ length (now out) ⌝ }
-    ensures { λ r. ⌜ (r ≡ at + length (now (text .entry))) × (now (out .exit) ≡ put (now (out .entry)) at (now (text .entry))) ⌝ }
+    requires { ⌜ Room (now out) at (now text) ⌝ }
+    ensures { λ r. ⌜ Written (now (out .entry)) at (now (text .entry)) (now (out .exit)) r ⌝ }
 {
     let mut i: usize = 0;
     while i < text.len() {
@@ -25,8 +30,8 @@ fn put_text(text: &[u8], out: &mut [u8], at: usize) -> usize
 
 // Writes n in decimal from a place of the list on, and returns the place after it.
 fn put_decimal(n: u64, out: &mut [u8], at: usize) -> usize
-    requires { ⌜ at + length (decimal n) ≤ length (now out) ⌝ }
-    ensures { λ r. ⌜ (r ≡ at + length (decimal n)) × (now (out .exit) ≡ put (now (out .entry)) at (decimal n)) ⌝ }
+    requires { ⌜ Room (now out) at (decimal n) ⌝ }
+    ensures { λ r. ⌜ Written (now (out .entry)) at (decimal n) (now (out .exit)) r ⌝ }
 {
     if n < 10 {
         out[at] = b'0' + n as u8;
@@ -39,8 +44,8 @@ fn put_decimal(n: u64, out: &mut [u8], at: usize) -> usize
 
 // Writes a blank and then n.
 fn put_field(n: u64, out: &mut [u8], at: usize) -> usize
-    requires { ⌜ at + length (32 ∷ decimal n) ≤ length (now out) ⌝ }
-    ensures { λ r. ⌜ (r ≡ at + length (32 ∷ decimal n)) × (now (out .exit) ≡ put (now (out .entry)) at (32 ∷ decimal n)) ⌝ }
+    requires { ⌜ Room (now out) at (32 ∷ decimal n) ⌝ }
+    ensures { λ r. ⌜ Written (now (out .entry)) at (32 ∷ decimal n) (now (out .exit)) r ⌝ }
 {
     out[at] = b' ';
     put_decimal(n, out, at + 1)
@@ -48,8 +53,8 @@ fn put_field(n: u64, out: &mut [u8], at: usize) -> usize
 
 // Writes the line of a draw that was done: `draw`, the count of records, k, the words used, the words rejected.
 fn draw_line(n: u64, k: u64, used: u64, rejected: u64, out: &mut [u8]) -> usize
-    requires { ⌜ 96 ≤ length (now out) ⌝ }
-    ensures { λ r. ⌜ (r ≡ length (drawLine n k used rejected)) × (now (out .exit) ≡ drawLine n k used rejected ++ drop r (now (out .entry))) ⌝ }
+    requires { ⌜ Room (now out) 0 (drawLine n k used rejected) ⌝ }
+    ensures { λ r. ⌜ Written (now (out .entry)) 0 (drawLine n k used rejected) (now (out .exit)) r ⌝ }
 {
     let at = put_text(b"draw", out, 0);
     let at = put_field(n, out, at);
@@ -61,8 +66,8 @@ fn draw_line(n: u64, k: u64, used: u64, rejected: u64, out: &mut [u8]) -> usize
 
 // Writes the line of a refusal: `refused`, its number, and the batch.
 fn refused_line(number: u64, batch: u64, out: &mut [u8]) -> usize
-    requires { ⌜ 96 ≤ length (now out) ⌝ }
-    ensures { λ r. ⌜ (r ≡ length (refusedLine number batch)) × (now (out .exit) ≡ refusedLine number batch ++ drop r (now (out .entry))) ⌝ }
+    requires { ⌜ Room (now out) 0 (refusedLine number batch) ⌝ }
+    ensures { λ r. ⌜ Written (now (out .entry)) 0 (refusedLine number batch) (now (out .exit)) r ⌝ }
 {
     let at = put_text(b"refused", out, 0);
     let at = put_field(number, out, at);
@@ -72,9 +77,9 @@ fn refused_line(number: u64, batch: u64, out: &mut [u8]) -> usize
 
 // Writes the first line that tells of a draw: the draw's where nothing is refused, else the refusal's. A draw starts at 0, so that next
 // is the count of words used.
-pub fn first_line(drawn: Drawn, out: &mut [u8]) -> usize
-    requires { ⌜ 96 ≤ length (now out) ⌝ }
-    ensures { λ r. ⌜ (r ≡ length (firstLine drawn)) × (now (out .exit) ≡ firstLine drawn ++ drop r (now (out .entry))) ⌝ }
+fn first_line(drawn: Drawn, out: &mut [u8]) -> usize
+    requires { ⌜ 89 ≤ length (now out) ⌝ }
+    ensures { λ r. ⌜ Written (now (out .entry)) 0 (firstLine drawn) (now (out .exit)) r × (r ≤ 89) ⌝ }
 {
     if drawn.no != 0 {
         return refused_line(drawn.no, drawn.batch as u64, out);
@@ -89,14 +94,41 @@ pub fn first_line(drawn: Drawn, out: &mut [u8]) -> usize
 }
 
 // Writes the line of a slot, counted from 0: its number from 1, its record, and whether it is early, one of the first w, or late.
-pub fn slot_line(slot: usize, record: u32, w: u32, out: &mut [u8]) -> usize
-    requires { ⌜ (slot + 1 < 2 ^ 64) × (96 ≤ length (now out)) ⌝ }
-    ensures { λ r. ⌜ (r ≡ length (slotLine w slot «record»)) × (now (out .exit) ≡ slotLine w slot «record» ++ drop r (now (out .entry))) ⌝ }
+fn slot_line(slot: usize, record: u32, w: u32, out: &mut [u8], at: usize) -> usize
+    requires { ⌜ (slot + 1 < 2 ^ 64) × Room (now out) at (slotLine w slot «record») ⌝ }
+    ensures { λ r. ⌜ Written (now (out .entry)) at (slotLine w slot «record») (now (out .exit)) r ⌝ }
 {
-    let at = put_decimal(slot as u64 + 1, out, 0);
+    let at = put_decimal(slot as u64 + 1, out, at);
     let at = put_field(record as u64, out, at);
     if slot < w as usize {
         return put_text(b" early\n", out, at);
     }
     put_text(b" late\n", out, at)
+}
+
+// Writes a line for each slot, from a place of the list on, and returns the place after them.
+fn write_slots(slots: &[u32], w: u32, out: &mut [u8], at: usize) -> usize
+    requires { ⌜ (length (now slots) ≤ 16384) × (at + 23 * length (now slots) ≤ length (now out)) ⌝ }
+    ensures { λ r. ⌜ Written (now (out .entry)) at (slotLines w 0 (now (slots .entry))) (now (out .exit)) r ⌝ }
+{
+    let mut to = at;
+    let mut slot: usize = 0;
+    while slot < slots.len() {
+        to = slot_line(slot, slots[slot], w, out, to);
+        slot += 1;
+    }
+    to
+}
+
+// Writes all that the program prints for a sheet to the front of the list, and returns how many bytes that is; the rest of it stays.
+pub fn write_output(sheet: &[u8], out: &mut [u8]) -> usize
+    requires { ⌜ 376921 ≤ length (now out) ⌝ }
+    ensures length { λ r. ⌜ r ≡ length (output (now (sheet .entry))) ⌝ }
+    ensures bytes { λ r. ⌜ now (out .exit) ≡ output (now (sheet .entry)) ++ drop r (now (out .entry)) ⌝ }
+{
+    let mut slots = [0u32; SLOTS];
+    let drawn = run_sheet(sheet, &mut slots);
+    let at = first_line(drawn, out);
+    let k = drawn.k as usize;
+    write_slots(&slots[..k], drawn.w, out, at)
 }

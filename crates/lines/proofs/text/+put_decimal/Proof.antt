@@ -1,4 +1,4 @@
--- `sheet::text::put_decimal` meets its contract. It recurses as the definition does: the digits of n / 10, and then the last one. The
+-- `lines::text::put_decimal` meets its contract. It recurses as the definition does: the digits of n / 10, and then the last one. The
 -- measure is n. Assumes nothing.
 use Prim.Native.Nat.{ℕ, _<_}
 use native.Mathlib.Omega.{arith}

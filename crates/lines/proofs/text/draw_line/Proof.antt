@@ -1,29 +1,31 @@
--- `sheet::text::draw_line` meets its contract. It turns on what stands at the front of the list after each call, the line so far.
--- Assumes nothing.
-use mathlib.Core.List.{List, [], _∷_, _++_, append-assoc}
+-- `lines::text::draw_line` meets its contract. It turns on what is left of the line after each call. Assumes nothing.
+use mathlib.Core.List.{List, [], _∷_, _++_}
 use Prim.Native.Nat.{ℕ}
-use native.Mathlib.Omega.{arith}
 use Rattle.lines.specs.Text.{decimal, line, drawText, drawLine}
-use Rattle.lines.proofs.Spelling.{SoFar, line-none, line-room, line-more, line-field-room, line-field-more, line-done}
+use Rattle.lines.proofs.Spelling.{SoFar, none-yet, next-room, next-written, last-room, all-written}
 use borrow.Author.Needs.{needs}
 use Rattle.lines.proofs.text.draw_line.Statement.{statement}
 use Rattle.lines.proofs.text.draw_line.Tie as tie
 
--- the bytes of the line after each call
-abbrev bytes1 : tie.Start → List ℕ
-bytes1 s = drawText
+-- what is left of the line after each call
+abbrev left5 : List ℕ
+left5 = 10 ∷ []
 
-abbrev bytes2 : tie.Start → List ℕ
-bytes2 s = bytes1 s ++ 32 ∷ decimal (s .args .n)
+abbrev left4 : tie.Start → List ℕ
+left4 s = (32 ∷ decimal (s .args .rejected)) ++ left5
 
-abbrev bytes3 : tie.Start → List ℕ
-bytes3 s = bytes2 s ++ 32 ∷ decimal (s .args .k)
+abbrev left3 : tie.Start → List ℕ
+left3 s = (32 ∷ decimal (s .args .used)) ++ left4 s
 
-abbrev bytes4 : tie.Start → List ℕ
-bytes4 s = bytes3 s ++ 32 ∷ decimal (s .args .used)
+abbrev left2 : tie.Start → List ℕ
+left2 s = (32 ∷ decimal (s .args .k)) ++ left3 s
 
-abbrev bytes5 : tie.Start → List ℕ
-bytes5 s = bytes4 s ++ 32 ∷ decimal (s .args .rejected)
+abbrev left1 : tie.Start → List ℕ
+left1 s = (32 ∷ decimal (s .args .n)) ++ left2 s
+
+-- the line, as far as it is written to a list
+abbrev Line : tie.Start → List ℕ → ℕ → List ℕ → Type 0
+Line s = let a = s .args in SoFar (a .out .now) 0 (drawLine (a .n) (a .k) (a .used) (a .rejected))
 
 -- the function's entry, from after each call
 abbrev from1 : tie.After-put-text → tie.Start
@@ -41,55 +43,54 @@ from4 c = from3 (c .before .before .before .before)
 abbrev from5 : tie.After-put-field4 → tie.Start
 from5 c = from4 (c .before .before .before .before)
 
--- what stands at the front of the list after each call
-so-far1 : (c : tie.After-put-text) → SoFar 4 (from1 c .args .out .now) (c .put-text .last .1 .0) (c .put-text .result) (bytes1 (from1 c))
-so-far1 c = line-more (line-none (from1 c .args .out .now) (from1 c .pre)) drawText (omega arith) (c .put-text .ensures)
+so-far0 : (s : tie.Start) → Line s (s .args .out .now) 0 (drawText ++ left1 s)
+unfolding line
+so-far0 s = none-yet (s .pre)
 
-so-far2 : (c : tie.After-put-field) → SoFar 25 (from2 c .args .out .now) (c .put-field .last .1 .0) (c .put-field .result) (bytes2 (from2 c))
-so-far2 c = line-field-more (so-far1 (c .before .before .before .before)) _ (from2 c .fits .n .fits) (omega arith) (c .put-field .ensures)
+so-far1 : (c : tie.After-put-text) → Line (from1 c) (c .put-text .last .1 .0) (c .put-text .result) (left1 (from1 c))
+so-far1 c = next-written drawText _ (so-far0 (from1 c)) (c .put-text .ensures)
 
-so-far3 : (c : tie.After-put-field2) → SoFar 46 (from3 c .args .out .now) (c .put-field2 .last .1 .0) (c .put-field2 .result) (bytes3 (from3 c))
-so-far3 c = line-field-more (so-far2 (c .before .before .before .before)) _ (from3 c .fits .k .fits) (omega arith) (c .put-field2 .ensures)
+so-far2 : (c : tie.After-put-field) → Line (from2 c) (c .put-field .last .1 .0) (c .put-field .result) (left2 (from2 c))
+so-far2 c = next-written (32 ∷ decimal _) _ (so-far1 (c .before .before .before .before)) (c .put-field .ensures)
 
-so-far4 : (c : tie.After-put-field3) → SoFar 67 (from4 c .args .out .now) (c .put-field3 .last .1 .0) (c .put-field3 .result) (bytes4 (from4 c))
-so-far4 c = line-field-more (so-far3 (c .before .before .before .before)) _ (from4 c .fits .used .fits) (omega arith) (c .put-field3 .ensures)
+so-far3 : (c : tie.After-put-field2) → Line (from3 c) (c .put-field2 .last .1 .0) (c .put-field2 .result) (left3 (from3 c))
+so-far3 c = next-written (32 ∷ decimal _) _ (so-far2 (c .before .before .before .before)) (c .put-field2 .ensures)
 
-so-far5 : (c : tie.After-put-field4) → SoFar 88 (from5 c .args .out .now) (c .put-field4 .last .1 .0) (c .put-field4 .result) (bytes5 (from5 c))
-so-far5 c = line-field-more (so-far4 (c .before .before .before .before)) _ (from5 c .fits .rejected .fits) (omega arith) (c .put-field4 .ensures)
+so-far4 : (c : tie.After-put-field3) → Line (from4 c) (c .put-field3 .last .1 .0) (c .put-field3 .result) (left4 (from4 c))
+so-far4 c = next-written (32 ∷ decimal _) _ (so-far3 (c .before .before .before .before)) (c .put-field3 .ensures)
+
+so-far5 : (c : tie.After-put-field4) → Line (from5 c) (c .put-field4 .last .1 .0) (c .put-field4 .result) left5
+so-far5 c = next-written (32 ∷ decimal _) _ (so-far4 (c .before .before .before .before)) (c .put-field4 .ensures)
 
 slice-aggregate-put-text : tie.Need-slice-aggregate-put-text
 slice-aggregate-put-text c = search needs
 
 put-text-requires : tie.Need-put-text-requires
-put-text-requires c κs = search needs
+put-text-requires c κs = next-room drawText _ (so-far0 (c .before .before .before))
 
 put-field-requires : tie.Need-put-field-requires
-put-field-requires c κs = let b = c .before .before .before in line-field-room (so-far1 b) _ (from1 b .fits .n .fits) (omega arith)
+put-field-requires c κs = next-room (32 ∷ decimal _) _ (so-far1 (c .before .before .before))
 
 put-field-requires-2 : tie.Need-put-field-requires-2
-put-field-requires-2 c κs = let b = c .before .before .before in line-field-room (so-far2 b) _ (from2 b .fits .k .fits) (omega arith)
+put-field-requires-2 c κs = next-room (32 ∷ decimal _) _ (so-far2 (c .before .before .before))
 
 put-field-requires-3 : tie.Need-put-field-requires-3
-put-field-requires-3 c κs = let b = c .before .before .before in line-field-room (so-far3 b) _ (from3 b .fits .used .fits) (omega arith)
+put-field-requires-3 c κs = next-room (32 ∷ decimal _) _ (so-far3 (c .before .before .before))
 
 put-field-requires-4 : tie.Need-put-field-requires-4
-put-field-requires-4 c κs = let b = c .before .before .before in line-field-room (so-far4 b) _ (from4 b .fits .rejected .fits) (omega arith)
+put-field-requires-4 c κs = next-room (32 ∷ decimal _) _ (so-far4 (c .before .before .before))
 
 slice-aggregate-put-text-2 : tie.Need-slice-aggregate-put-text-2
 slice-aggregate-put-text-2 c = search needs
 
 put-text-requires-2 : tie.Need-put-text-requires-2
-put-text-requires-2 c κs = line-room (so-far5 (c .before .before .before .before)) (10 ∷ []) (omega arith)
+put-text-requires-2 c κs = last-room left5 (so-far5 (c .before .before .before .before))
 
 same-length : tie.Need-same-length
 same-length c = search needs
 
 returns : tie.Need-returns
-unfolding line
-returns c =
-    let b = c .before .before .before .before .before .before .before in
-    let a = from5 b .args in
-    line-done (line-more (so-far5 b) (10 ∷ []) (omega arith) (c .before .before .put-text2 .ensures)) (drawLine (a .n) (a .k) (a .used) (a .rejected)) (simp append-assoc)
+returns c = all-written left5 (so-far5 (c .before .before .before .before .before .before .before)) (c .before .before .put-text2 .ensures)
 
 pub draw-line-spec : {M : Type 1} → statement M
 draw-line-spec =

@@ -1,4 +1,4 @@
--- `sheet::text::put_field` meets its contract. It turns on one law: a blank and the bytes behind it are put as one. Assumes nothing.
+-- `lines::text::put_field` meets its contract. It turns on one law: a blank and the bytes behind it are put as one. Assumes nothing.
 use Rattle.lines.specs.Text.{decimal}
 use native.Mathlib.Omega.{arith}
 use lib.ListN.{length-set}

@@ -1,4 +1,4 @@
--- `sheet::text::put_text` meets its contract. The loop's invariant: the first i bytes of the text stand from the place on, and all else
+-- `lines::text::put_text` meets its contract. The loop's invariant: the first i bytes of the text stand from the place on, and all else
 -- is as it was. The measure is what is left of the text. Assumes nothing.
 use mathlib.Core.Path.{_≡_, refl, ap, _∙_}
 use mathlib.Core.List.{List}

@@ -1,0 +1,68 @@
+-- What pins the text that is printed: sentences that tell its definitions from other definitions of their shape.
+--
+--   spelled bs       the number that the digits bs spell, the first most significant
+--   spelledFrom a bs the same, with the digits of a in front
+--   Spells n bs      bs is n in decimal: it spells n, by the digits `0` to `9`, and has no `0` in front, unless it is `0`
+--   DecimalPinned    decimal n is n in decimal, whatever n is
+--   sheet52          the sheet of 52 bytes of document 01: header 2, 24, 3, 40, 1, 1; words 0, 1; records 101, 205, 309
+--   text52           `draw 3 1 2 1`, line feed, `1 309 early`, line feed
+--   sheet64          a sheet of 64 bytes: header 3, 24, 4, 48, 3, 2; words 2^64 - 1, three times; records 4294967295, 0, 1000000000, 7
+--   text64           `draw 4 3 1 0`, `1 4294967295 early`, `2 0 early`, `3 1000000000 late`, with a line feed after each
+--   OutputPinned     of the output: the two examples; a refusal prints its line and nothing else; number 6 is never printed; of input
+--                    longer than 65,536 bytes the first 65,536 decide
+use mathlib.Core.Path.{_≡_}
+use mathlib.Core.Logic.{_⊎_}
+use mathlib.Core.List.{List, [], _∷_, _++_}
+use Prim.Native.Nat.{ℕ, _+_, _*_, _-_, _<_, _≤_}
+use lib.ListN.{length, take, getD, replicate}
+use Rattle.rules.specs.Width.{w64}
+use Rattle.answers.specs.Outcome.{refused}
+use Rattle.sheet.specs.Operations.{runSheet}
+use Rattle.lines.specs.Text.{decimal, refusedLine, room, output}
+
+unfoldable pub spelledFrom : ℕ → List ℕ → ℕ
+spelledFrom a [] = a
+spelledFrom a (b ∷ bs) = spelledFrom (10 * a + (b - 48)) bs
+
+abbrev pub spelled : List ℕ → ℕ
+spelled bs = spelledFrom 0 bs
+
+pub record Spells (n : ℕ) (bs : List ℕ) : Type 0 where
+  pub number : spelled bs ≡ n
+  pub digit : (i : ℕ) → i < length bs → (48 ≤ getD bs i 0) × (getD bs i 0 ≤ 57)
+  pub front : (bs ≡ 48 ∷ []) ⊎ (48 < getD bs 0 0)
+
+abbrev pub DecimalPinned : Type 0
+DecimalPinned = (n : ℕ) → Spells n (decimal n)
+
+abbrev pub sheet52 : List ℕ
+sheet52 =
+    2 ∷ 0 ∷ 0 ∷ 0 ∷ 24 ∷ 0 ∷ 0 ∷ 0 ∷ 3 ∷ 0 ∷ 0 ∷ 0 ∷ 40 ∷ 0 ∷ 0 ∷ 0 ∷ 1 ∷ 0 ∷ 0 ∷ 0 ∷ 1 ∷ 0 ∷ 0 ∷ 0
+    ∷ 0 ∷ 0 ∷ 0 ∷ 0 ∷ 0 ∷ 0 ∷ 0 ∷ 0 ∷ 1 ∷ 0 ∷ 0 ∷ 0 ∷ 0 ∷ 0 ∷ 0 ∷ 0
+    ∷ 101 ∷ 0 ∷ 0 ∷ 0 ∷ 205 ∷ 0 ∷ 0 ∷ 0 ∷ 53 ∷ 1 ∷ 0 ∷ 0 ∷ []
+
+abbrev pub text52 : List ℕ
+text52 =
+    100 ∷ 114 ∷ 97 ∷ 119 ∷ 32 ∷ 51 ∷ 32 ∷ 49 ∷ 32 ∷ 50 ∷ 32 ∷ 49 ∷ 10
+    ∷ 49 ∷ 32 ∷ 51 ∷ 48 ∷ 57 ∷ 32 ∷ 101 ∷ 97 ∷ 114 ∷ 108 ∷ 121 ∷ 10 ∷ []
+
+-- The last word that there is, which leaves the first records in their slots, stands there three times.
+abbrev pub sheet64 : List ℕ
+sheet64 =
+    3 ∷ 0 ∷ 0 ∷ 0 ∷ 24 ∷ 0 ∷ 0 ∷ 0 ∷ 4 ∷ 0 ∷ 0 ∷ 0 ∷ 48 ∷ 0 ∷ 0 ∷ 0 ∷ 3 ∷ 0 ∷ 0 ∷ 0 ∷ 2 ∷ 0 ∷ 0 ∷ 0
+    ∷ replicate 24 255
+    ++ 255 ∷ 255 ∷ 255 ∷ 255 ∷ 0 ∷ 0 ∷ 0 ∷ 0 ∷ 0 ∷ 202 ∷ 154 ∷ 59 ∷ 7 ∷ 0 ∷ 0 ∷ 0 ∷ []
+
+abbrev pub text64 : List ℕ
+text64 =
+    100 ∷ 114 ∷ 97 ∷ 119 ∷ 32 ∷ 52 ∷ 32 ∷ 51 ∷ 32 ∷ 49 ∷ 32 ∷ 48 ∷ 10
+    ∷ 49 ∷ 32 ∷ 52 ∷ 50 ∷ 57 ∷ 52 ∷ 57 ∷ 54 ∷ 55 ∷ 50 ∷ 57 ∷ 53 ∷ 32 ∷ 101 ∷ 97 ∷ 114 ∷ 108 ∷ 121 ∷ 10
+    ∷ 50 ∷ 32 ∷ 48 ∷ 32 ∷ 101 ∷ 97 ∷ 114 ∷ 108 ∷ 121 ∷ 10
+    ∷ 51 ∷ 32 ∷ 49 ∷ 48 ∷ 48 ∷ 48 ∷ 48 ∷ 48 ∷ 48 ∷ 48 ∷ 48 ∷ 48 ∷ 32 ∷ 108 ∷ 97 ∷ 116 ∷ 101 ∷ 10 ∷ []
+
+pub record OutputPinned : Type 0 where
+  pub example52 : output sheet52 ≡ text52
+  pub example64 : output sheet64 ≡ text64
+  pub refusal : (s : List ℕ) (number batch : ℕ) → runSheet w64 s room ≡ refused number batch → output s ≡ refusedLine number batch
+  pub never6 : (s : List ℕ) (batch : ℕ) → runSheet w64 s room ≡ refused 6 batch → ⊥
+  pub long : (s : List ℕ) → output (take 65536 s) ≡ output s
