@@ -4,6 +4,7 @@ pub mod Each
 pub mod Exchanging
 pub mod Facts
 pub mod Finding
+pub mod Joining
 pub mod Orders
 pub mod Pinned
 pub mod PinnedCut
