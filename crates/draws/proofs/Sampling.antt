@@ -17,7 +17,7 @@ use borrow.Author.Tests.{ne-eqb}
 use Rattle.rules.specs.Rolls.{hasZero}
 use Rattle.rules.proofs.Writing.{drop-next}
 use Rattle.rules.specs.Reservoir.{countup, reservoir}
-use Rattle.rules.proofs.Rows.{countup-length}
+use Rattle.rules.proofs.Rows.{length-countup}
 use Rattle.rules.proofs.Reservoir.{reservoir-taken, reservoir-none, reservoir-passed}
 
 -- the records before place k + i have had their turn
@@ -90,7 +90,7 @@ slots-drawn xs slots₀ slots k js out h e f =
 -- ---- the bounds of a sample
 
 pub bound-count : (bs : List ℕ) (n k : ℕ) → k ≤ n → bs ≡ countup (n - k) (k + 1) → k + length bs ≡ n
-bound-count bs n k h e = omega (arith, ap length e ∙ countup-length (n - k) (k + 1))
+bound-count bs n k h e = omega (arith, ap length e ∙ length-countup (n - k) (k + 1))
 
 no-zero : (s i : ℕ) → 0 < i → hasZero (countup s i) ≡ false
 unfolding countup hasZero

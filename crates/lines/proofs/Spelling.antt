@@ -27,7 +27,7 @@ use lib.Dec.{ltb}
 use lib.ListN.{length, set, length-append, take-append-drop}
 use lib.Seq.{take-length, set-split, paste}
 use borrow.Author.Tests.{lt-ltb, le-ltb, ltb-true, ltb-false}
-use Rattle.rules.proofs.Writing.{drop-more, wrote-front, wrote-back, wrote-length}
+use Rattle.rules.proofs.Writing.{drop-more, wrote-front, wrote-back, length-wrote}
 use Rattle.lines.specs.Text.{digit, digits, decimal}
 use Rattle.lines.specs.Inner.{put, Room, Written}
 
@@ -86,7 +86,7 @@ put-first out at b h = rw (add-one at) (set-split out at b h)
 
 module _ (out : List ℕ) (at : ℕ) (bs : List ℕ) (h : Room out at bs) where
   put-length : length (put out at bs) ≡ length out
-  put-length = wrote-length out bs at h
+  put-length = length-wrote out bs at h
 
   -- more bytes behind them
   put-put : (cs : List ℕ) → put (put out at bs) (at + length bs) cs ≡ put out at (bs ++ cs)

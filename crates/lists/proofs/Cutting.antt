@@ -102,8 +102,8 @@ Cutting limit bs at p end =
     (at < end) × (end ≤ length bs) × (end - at ≤ 16) × (p ≡ product (part bs at end))
     × (cutFrom limit (part bs at end) (drop end bs) ≡ cut limit (drop at bs))
 
-part-length : (bs : List ℕ) (at end : ℕ) → end ≤ length bs → length (part bs at end) ≡ end - at
-part-length bs at end h = length-take-le (end - at) (drop at bs) (rw length-drop (omega arith))
+length-part : (bs : List ℕ) (at end : ℕ) → end ≤ length bs → length (part bs at end) ≡ end - at
+length-part bs at end h = length-take-le (end - at) (drop at bs) (rw length-drop (omega arith))
 
 part-more : (bs : List ℕ) (at end : ℕ) → at ≤ end → end < length bs → part bs at (end + 1) ≡ part bs at end ++ getD bs end 0 ∷ []
 part-more bs at end h k =
@@ -119,7 +119,7 @@ cut-first limit bs at h =
 
 module _ (limit : ℕ) (bs : List ℕ) (at p end : ℕ) (v : Cutting limit bs at p end) where
   len : length (part bs at end) ≡ end - at
-  len = part-length bs at end (v .1)
+  len = length-part bs at end (v .1)
 
   joined : (s t : Bool) → ltb (length (part bs at end)) 16 ≡ s → leb (p * getD bs end 0) limit ≡ t
       → joins limit (part bs at end) (getD bs end 0) ≡ (s && t)

@@ -4,7 +4,7 @@
 --   fill-none, fill-turn   before the first turn, and one turn
 --   fill-never             no word is missing
 --   fill-done              the rolls of the whole list are written
---   list-length            a list has as many rolls as bounds
+--   length-list            a list has as many rolls as bounds
 use mathlib.Core.Path.{_≡_, refl, sym, ap, ap₂, _∙_}
 use mathlib.Core.Bool.{Bool, true, false}
 use mathlib.Core.List.{List, [], _∷_, _++_, append-assoc, append-nil}
@@ -15,7 +15,7 @@ use borrow.Rule.Slice.PartMut.{putMid}
 use Rattle.rules.specs.Width.{Width}
 use Rattle.rules.specs.Rolls.{rolls, accepted, hasZero}
 use Rattle.arithmetic.specs.Products.{unwrap}
-use Rattle.rules.proofs.Rolls.{rolls-length}
+use Rattle.rules.proofs.Rolls.{length-rolls}
 use Rattle.rules.specs.Run.{Taken, Found, found, missing, find, Run, runFrom, run, rollsOf, suffices}
 use Rattle.rules.specs.Cut.{joins, cutFrom, cut}
 use Rattle.rolls.specs.Inner.{passes, searched}
@@ -26,7 +26,7 @@ use Rattle.lists.proofs.Cutting.{part}
 use Rattle.lists.proofs.Listing.{batchAt, batch-within, batch-rest, batch-part, cut-end, cut-find}
 use Rattle.rules.proofs.Running.{rolledBy}
 use Rattle.rolls.proofs.Stepping.{hit-suffices, hit-rolled, hit-within, never-missing}
-use Rattle.rules.proofs.Writing.{wrote-front, wrote-back, wrote-length, lent, drop-more}
+use Rattle.rules.proofs.Writing.{wrote-front, wrote-back, length-wrote, lent, drop-more}
 
 -- ---- the loop
 
@@ -62,7 +62,7 @@ module _ (W : Width) (words : List ℕ) (start : ℕ) (bs out₀ out : List ℕ)
     fill-turn w place m s room last l =
         let batch : List ℕ = batchAt W bs at in
         let d : List ℕ = rolls (W .bits) batch w in
-        let n : length d ≡ length batch = rolls-length (W .bits) batch w in
+        let n : length d ≡ length batch = length-rolls (W .bits) batch w in
         let end : c .end ≡ at + length d = cut-end W bs at h z c e ∙ ap (λ (k : ℕ). at + k) (sym n) in
         let p : part bs at (c .end) ≡ batch = rw (cut-end W bs at h z c e) (sym (batch-part W bs at h)) in
         let fits : at + length d ≤ length out = omega (arith, n, batch-within W bs at h, room, v .2) in
@@ -73,7 +73,7 @@ module _ (W : Width) (words : List ℕ) (start : ℕ) (bs out₀ out : List ℕ)
         rw (wrote-d, end) (
           omega (arith, hit-within (W .bits) batch plan words to (v .4 .0) _ same w place m s),
           omega (arith, n, batch-within W bs at h),
-          wrote-length out d at fits ∙ v .2,
+          length-wrote out d at fits ∙ v .2,
           wrote-back out d at fits ∙ drop-more out out₀ at (length d) (v .3),
           (
             v .4 .0 + 1,
@@ -129,9 +129,9 @@ rolled-total L (bs ∷ plan) words start batch e = go (find (accepted L bs) (dro
     go (found t) f s ih =
         ap length (hit-rolled L bs plan words start batch (found t) (sym f) (t .word) (t .place) _ refl s)
         ∙ length-append (rolls L bs (t .word)) _
-        ∙ ap₂ _+_ (rolls-length L bs (t .word)) (ih t (hit-suffices L bs plan words start batch (found t) (sym f) (t .word) (t .place) _ refl s))
+        ∙ ap₂ _+_ (length-rolls L bs (t .word)) (ih t (hit-suffices L bs plan words start batch (found t) (sym f) (t .word) (t .place) _ refl s))
     go missing f s ih = absurd (never-missing L bs plan words start batch missing (sym f) refl s)
 
-pub list-length : (L limit : ℕ) (bs words : List ℕ) (start : ℕ) → suffices (run L (cut limit bs) words start) ≡ true
+pub length-list : (L limit : ℕ) (bs words : List ℕ) (start : ℕ) → suffices (run L (cut limit bs) words start) ≡ true
     → length (rolledBy L (cut limit bs) (run L (cut limit bs) words start)) ≡ length bs
-list-length L limit bs words start e = rolled-total L (cut limit bs) words start 0 e ∙ total-cut limit bs
+length-list L limit bs words start e = rolled-total L (cut limit bs) words start 0 e ∙ total-cut limit bs

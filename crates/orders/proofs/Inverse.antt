@@ -21,7 +21,7 @@ use Rattle.rules.proofs.Writing.{stored-front}
 use Rattle.rules.specs.Shuffle.{exchange, countdown}
 use Rattle.rules.specs.Reservoir.{countup}
 use Rattle.rules.specs.Order.{isOrder, placeOf, rollsInto}
-use Rattle.rules.proofs.Rows.{countdown-at, countup-length, countup-at}
+use Rattle.rules.proofs.Rows.{getD-countdown, length-countup, getD-countup}
 use Rattle.rules.proofs.Exchanging.{exchange-first, exchange-other}
 use Rattle.rules.proofs.Orders.{rolls-into-step, rolls-into-none, Midway, midway-start, midway-roll, midway-step}
 use Rattle.rules.proofs.Each.{order-reorders, countup-distinct}
@@ -48,17 +48,17 @@ invert-start ys marks out e room marked start =
     let n : ℕ = length ys in
     let t : T (isOrder ys) = rw e tt in
     let none : n - n ≡ 0 = omega arith in
-    let at : (i : ℕ) → i < n → getD (countup n 0) i 0 ≡ i = λ i h. countup-at n 0 i h ∙ omega arith in
+    let at : (i : ℕ) → i < n → getD (countup n 0) i 0 ≡ i = λ i h. getD-countup n 0 i h ∙ omega arith in
     record {
       xs = countup n 0;
-      midway = rw (countup-length n 0) at (midway-start (countup n 0) ys (countup-distinct n) (order-reorders ys t));
+      midway = rw (length-countup n 0) at (midway-start (countup n 0) ys (countup-distinct n) (order-reorders ys t));
       some = omega arith;
       room = room;
       same-length = refl;
       inverse = λ i h. rw (at i h) (marked i h);
       standing = λ i p h.
           sym (getD-take (n - 1) out (n - 1 - i) 0 (omega arith)) ∙ ap (λ (l : List ℕ). getD l (n - 1 - i) 0) start
-          ∙ countdown-at (n - 1) (n - 1) (n - 1 - i) (omega arith) ∙ omega (arith, at i h);
+          ∙ getD-countdown (n - 1) (n - 1) (n - 1 - i) (omega arith) ∙ omega (arith, at i h);
       rolled = rw none;
       rest = refl;
     }

@@ -24,7 +24,7 @@ use Rattle.rules.specs.Shuffle.{shuffleWith, shufflePlan}
 use Rattle.rules.specs.Width.{Width}
 use Rattle.rules.proofs.Each.{countup-distinct}
 use Rattle.rules.proofs.Orders.{Reordered, reordered, place-of, length-shuffle, one-series}
-use Rattle.rules.proofs.Rows.{countup-length, countup-at}
+use Rattle.rules.proofs.Rows.{length-countup, getD-countup}
 use Rattle.rules.proofs.Widths.{GoodWidth}
 use Rattle.rules.proofs.Writing.{whole-list}
 use Rattle.answers.specs.Outcome.{done, decide, noWord, seen}
@@ -38,7 +38,7 @@ use Rattle.promises.specs.Behind.{FullRun}
 use Rattle.promises.specs.Demand1.{Callable}
 use Rattle.promises.specs.Demand3.{Paired, places, runsNamed, InRun, Produces, Demand3At, Demand3, OwnPlaces}
 use Rattle.promises.specs.Shuffle.{Op}
-use Rattle.promises.proofs.Naming.{places-length, places-at, rolls-named, runs-full, runs-in}
+use Rattle.promises.proofs.Naming.{length-places, getD-places, rolls-named, runs-full, runs-in}
 use Rattle.promises.proofs.Shuffle.{plan-fits}
 
 -- not refused and these values, exactly when the words suffice and the values are these
@@ -96,14 +96,14 @@ pub demand3 : (W : Width) → GoodWidth W → Demand3 W (seenShuffle W) (seenBeh
 demand3 W g n h = same-at W g (seenShuffle W) n h (λ xs ys words e w. (λ p. p, λ p. p))
 
 pub own-places : OwnPlaces
-own-places n ys r = ext-getD 0 (places (countup n 0) ys) ys (places-length (countup n 0) ys) at
+own-places n ys r = ext-getD 0 (places (countup n 0) ys) ys (length-places (countup n 0) ys) at
   where
     o : Reordered (countup n 0) ys
     o = reordered (countup n 0) ys (countup-distinct n) r
 
     at : (i : ℕ) → i < length (places (countup n 0) ys) → getD (places (countup n 0) ys) i 0 ≡ getD ys i 0
     at i h =
-        let k : i < length ys = rw places-length at h in
+        let k : i < length ys = rw length-places at h in
         let (p, l, e) = o .among i k in
-        let own : getD (countup n 0) p 0 ≡ p = countup-at n 0 p (rw countup-length at l) ∙ omega arith in
-        places-at (countup n 0) ys i k ∙ ap (λ (y : ℕ). placeOf y (countup n 0)) (sym e) ∙ place-of (countup n 0) p (countup-distinct n) l ∙ sym own ∙ e
+        let own : getD (countup n 0) p 0 ≡ p = getD-countup n 0 p (rw length-countup at l) ∙ omega arith in
+        getD-places (countup n 0) ys i k ∙ ap (λ (y : ℕ). placeOf y (countup n 0)) (sym e) ∙ place-of (countup n 0) p (countup-distinct n) l ∙ sym own ∙ e

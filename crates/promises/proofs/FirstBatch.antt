@@ -24,9 +24,9 @@ use Rattle.rules.specs.Shuffle.{exchange, shuffleWith, countdown, shuffleBounds
 use Rattle.rules.specs.Width.{w64, size64}
 use Rattle.rules.proofs.Each.{countup-distinct}
 use Rattle.rules.proofs.Orders.{range-cons, shuffle-reorders, one-series}
-use Rattle.rules.proofs.Range.{range-length, range-split}
+use Rattle.rules.proofs.Range.{length-in-range, range-split}
 use Rattle.rules.proofs.Reach.{rolled-in-range, words-in-runs}
-use Rattle.rules.proofs.Rows.{countup-length, no-bounds, countdown-at, shuffle-bounds-length}
+use Rattle.rules.proofs.Rows.{length-countup, no-bounds, getD-countdown, length-shuffle-bounds}
 use Rattle.rules.proofs.Runs.{InRuns}
 use Rattle.rules.proofs.Widths.{good64}
 use Rattle.rules.proofs.Words.{first-last, last-fits}
@@ -94,7 +94,7 @@ unfolding mixed
 mixed-differ s zero n h k e = not-suc-le-zero h
 mixed-differ zero (suc t) n h k e =
     let z : getD (countdown (n - 1) (n - 1)) 0 0 ≡ 0 = ap (λ (l : List ℕ). getD l 0 0) e in
-    omega (arith, countdown-at (n - 1) (n - 1) 0 (omega arith))
+    omega (arith, getD-countdown (n - 1) (n - 1) 0 (omega arith))
 mixed-differ (suc s) (suc t) n h k e = mixed-differ s t (n - 1) (omega arith) (omega arith) (ap (drop 1) e)
 
 take-mixed : (s t n : ℕ) → s ≤ t → take s (mixed t n) ≡ replicate s 0
@@ -175,7 +175,7 @@ module _ (op : Op) (f : FirstBatchOnly w64 op) where
 
   fails-from-eight : (n : ℕ) → 8 ≤ n → n ≤ maxRecords → Demand3At w64 op (seenBehind w64) seenOrder n → ⊥
   fails-from-eight n low high demand =
-      let e : length (countup n 0) ≡ n = countup-length n 0 in
+      let e : length (countup n 0) ≡ n = length-countup n 0 in
       goes-wrong (countup n 0) (countup-distinct n) (rw e low) (rw e high) (subst (Demand3At w64 op (seenBehind w64) seenOrder) (sym e) demand)
 
   -- the rolls of one batch are all the rolls
@@ -186,8 +186,8 @@ module _ (op : Op) (f : FirstBatchOnly w64 op) where
       let rs : List ℕ = shuffleRolls w64 words 0 xs in
       let good = plan-fits w64 good64 n (omega arith) in
       let (t, e) = produces w64 words xs (seenShuffle w64 words 0 xs .1) (omega arith) .0 (z, refl) in
-      let count : length rs ≡ length (joined plan) = range-length (joined plan) rs (truth _ (rolled-in-range 64 words w plan 0 0 (good .rollable) t)) in
-      let all : take (size64 n) rs ≡ rs = take-all (size64 n) rs (omega (arith, ap length (good .same), shuffle-bounds-length n, size-small n h)) in
+      let count : length rs ≡ length (joined plan) = length-in-range (joined plan) rs (truth _ (rolled-in-range 64 words w plan 0 0 (good .rollable) t)) in
+      let all : take (size64 n) rs ≡ rs = take-all (size64 n) rs (omega (arith, ap length (good .same), length-shuffle-bounds n, size-small n h)) in
       f .moves words 0 xs (same-number words xs w ∙ z) ∙ ap (λ (l : List ℕ). shuffleWith n l xs) all ∙ e
 
   holds-to-seven : (n : ℕ) → n ≤ 7 → Demand3At w64 op (seenBehind w64) seenOrder n

@@ -3,7 +3,7 @@
 --   gives-iff                  a word is accepted with these rolls exactly where it gives them
 --   Ran, RanAs, follows-run    the run of a plan follows the method
 --   RunBy, run-follows         and what follows the method is that run
---   by-method                  so what is read off the run is what the method gives
+--   by-method, rolled-count    so what is read off the run is what the method gives; as many rolls as bounds
 --   suffice, one-outcome       number 10 applies exactly where the method gives nothing; and it gives one outcome
 --   same-outcome, same-seen    two that go by the method have the same words and rolls, and give the same
 use mathlib.Core.Path.{_≡_, refl, sym, ap, ap₂, _∙_, subst}
@@ -19,11 +19,11 @@ use lib.Seq.{getD-drop, take-at, drop-at}
 use borrow.Author.Tests.{leb-true, leb-false, le-leb, lt-leb}
 use Rattle.rules.proofs.Facts.{clash}
 use Rattle.rules.specs.Rolls.{rolls, rest, product, value, threshold, accepted}
-use Rattle.rules.proofs.Rolls.{key-law, rest-below, rolls-length, rolls-in-range, value-one}
+use Rattle.rules.proofs.Rolls.{key-law, rest-below, length-rolls, rolls-in-range, value-one}
 use lib.Dec.{T}
 use borrow.Author.Tests.{ltb-false}
 use Rattle.rules.specs.Plan.{joined}
-use Rattle.rules.proofs.Range.{range-length}
+use Rattle.rules.proofs.Range.{length-in-range}
 use Rattle.rules.proofs.Reach.{rolled-in-range}
 use Rattle.answers.specs.Outcome.{noWord, ofWords}
 use Rattle.answers.specs.declared.answer.Answer.{Answer}
@@ -158,7 +158,7 @@ ran-after : (L : ℕ) (bs : List ℕ) (plan : List (List ℕ)) (words : List ℕ
     → First L bs words start (t .place) (rolls L bs (t .word)) → RanAs L plan words (t .place + 1) r → RanAs L (bs ∷ plan) words start (after t r)
 unfolding rollsOf next rejected
 ran-after L bs plan words start t (ran ts) f g =
-    let n : length (rolls L bs (t .word)) ≡ length bs = rolls-length L bs (t .word) in
+    let n : length (rolls L bs (t .word)) ≡ length bs = length-rolls L bs (t .word) in
     record {
       follows = (
         t .place,
@@ -233,7 +233,7 @@ module _ (L : ℕ) (plan : List (List ℕ)) (words : List ℕ) (start : ℕ) (a 
         go (short k) t f x = absurd t
 
     pub rolled-count : (bs : List ℕ) → joined plan ≡ bs → length (rollsOf L plan ts) ≡ length bs
-    rolled-count bs e = range-length (joined plan) (rollsOf L plan ts) (truth _ (rolled-in-range L words w plan start 0 g enough)) ∙ ap length e
+    rolled-count bs e = length-in-range (joined plan) (rollsOf L plan ts) (truth _ (rolled-in-range L words w plan start 0 g enough)) ∙ ap length e
 
 -- ---- one outcome
 

@@ -1,7 +1,7 @@
 -- The runs of words behind an order, as the two ways back name them. An order of different records is an order of their places: a shuffle
 -- moves records as it moves their places, so the rolls behind the places are the rolls behind the records. Assumes nothing.
 --
---   places-length, places-at     the places of records, one by one
+--   length-places, getD-places     the places of records, one by one
 --   rolls-named                  the rolls behind the places of an order, as the operation gives them: those that are looked up in the records
 --   runs-full, runs-in           the runs of a plan, as the operation gives them
 use mathlib.Core.Path.{_≡_, refl, sym, ap, _∙_, subst}
@@ -25,8 +25,8 @@ use Rattle.rules.specs.Width.{Width}
 use Rattle.rules.proofs.Each.{order-iff, rolls-behind}
 use Rattle.rules.proofs.Exchanging.{length-exchange, exchange-first, exchange-last, exchange-other}
 use Rattle.rules.proofs.Orders.{Reordered, reordered, place-of, range-cons, length-shuffle, one-series}
-use Rattle.rules.proofs.Range.{range-length, range-split}
-use Rattle.rules.proofs.Rows.{countup-length, countup-at, shuffle-bounds-length}
+use Rattle.rules.proofs.Range.{length-in-range, range-split}
+use Rattle.rules.proofs.Rows.{length-countup, getD-countup, length-shuffle-bounds}
 use Rattle.rules.proofs.Runs.{InRuns}
 use Rattle.answers.specs.Outcome.{done, seen}
 use Rattle.answers.specs.Supplied.{answered}
@@ -52,10 +52,10 @@ record-at xs p = getD xs p 0
 module _ (xs : List ℕ) where
   reads-start : Reads xs (countup (length xs) 0) xs
   reads-start = record {
-    same = sym (countup-length (length xs) 0);
+    same = sym (length-countup (length xs) 0);
     at = λ i h.
-        let l : i < length xs = rw countup-length at h in
-        ap (record-at xs) (sym (countup-at (length xs) 0 i l ∙ omega arith));
+        let l : i < length xs = rw length-countup at h in
+        ap (record-at xs) (sym (getD-countup (length xs) 0 i l ∙ omega arith));
   }
 
   reads-exchange : (zs ws : List ℕ) (i j : ℕ) → i < length zs → j < length zs → Reads xs zs ws → Reads xs (exchange zs i j) (exchange ws i j)
@@ -83,16 +83,16 @@ module _ (xs : List ℕ) where
 
 -- ---- the places of an order
 
-pub places-length : (xs ys : List ℕ) → length (places xs ys) ≡ length ys
+pub length-places : (xs ys : List ℕ) → length (places xs ys) ≡ length ys
 unfolding places
-places-length xs [] = refl
-places-length xs (y ∷ ys) = ap suc (places-length xs ys)
+length-places xs [] = refl
+length-places xs (y ∷ ys) = ap suc (length-places xs ys)
 
-pub places-at : (xs ys : List ℕ) (i : ℕ) → i < length ys → getD (places xs ys) i 0 ≡ placeOf (getD ys i 0) xs
+pub getD-places : (xs ys : List ℕ) (i : ℕ) → i < length ys → getD (places xs ys) i 0 ≡ placeOf (getD ys i 0) xs
 unfolding places
-places-at xs [] i h = absurd (not-suc-le-zero h)
-places-at xs (y ∷ ys) zero h = refl
-places-at xs (y ∷ ys) (suc i) h = places-at xs ys i (le-of-suc-le-suc h)
+getD-places xs [] i h = absurd (not-suc-le-zero h)
+getD-places xs (y ∷ ys) zero h = refl
+getD-places xs (y ∷ ys) (suc i) h = getD-places xs ys i (le-of-suc-le-suc h)
 
 module _ (xs ys : List ℕ) (d : Distinct xs) (r : Reorders xs ys) where
   o : Reordered xs ys
@@ -105,15 +105,15 @@ module _ (xs ys : List ℕ) (d : Distinct xs) (r : Reorders xs ys) where
       (rw same (a .1), ap (record-at xs) same ∙ a .2)
 
   places-count : length (places xs ys) ≡ length xs
-  places-count = places-length xs ys ∙ o .same-length
+  places-count = length-places xs ys ∙ o .same-length
 
   places-order : T (isOrder (places xs ys))
   places-order = order-iff (places xs ys) .1 (
-    λ i h. let k : i < length ys = rw places-length at h in rw (places-at xs ys i k, places-count) (stands i k .0),
+    λ i h. let k : i < length ys = rw length-places at h in rw (getD-places xs ys i k, places-count) (stands i k .0),
     λ i j hi hj e.
-        let ki : i < length ys = rw places-length at hi in
-        let kj : j < length ys = rw places-length at hj in
-        let same : placeOf (getD ys i 0) xs ≡ placeOf (getD ys j 0) xs = sym (places-at xs ys i ki) ∙ e ∙ places-at xs ys j kj in
+        let ki : i < length ys = rw length-places at hi in
+        let kj : j < length ys = rw length-places at hj in
+        let same : placeOf (getD ys i 0) xs ≡ placeOf (getD ys j 0) xs = sym (getD-places xs ys i ki) ∙ e ∙ getD-places xs ys j kj in
         o .distinct i j ki kj (sym (stands i ki .1) ∙ ap (record-at xs) same ∙ stands j kj .1),
   )
 
@@ -127,7 +127,7 @@ module _ (xs ys : List ℕ) (d : Distinct xs) (r : Reorders xs ys) where
       only = rw places-count at (rolls-behind (places xs ys) places-order)
 
       read : Reads xs (shuffleWith (length xs) rs (countup (length xs) 0)) (shuffleWith (length xs) rs xs)
-      read = reads-shuffle xs (length xs) rs (countup (length xs) 0) xs (omega (arith, countup-length (length xs) 0)) (only .in-range) (reads-start xs)
+      read = reads-shuffle xs (length xs) rs (countup (length xs) 0) xs (omega (arith, length-countup (length xs) 0)) (only .in-range) (reads-start xs)
 
       gives : shuffleWith (length xs) rs xs ≡ ys
       gives = ext-getD 0 (shuffleWith (length xs) rs xs) ys (length-shuffle (length xs) rs xs ∙ sym (o .same-length)) at
@@ -136,7 +136,7 @@ module _ (xs ys : List ℕ) (d : Distinct xs) (r : Reorders xs ys) where
           at i h =
               let k : i < length ys = omega (arith, length-shuffle (length xs) rs xs, o .same-length) in
               read .at i (omega (arith, read .same))
-              ∙ ap (record-at xs) (ap (λ (l : List ℕ). getD l i 0) (only .gives) ∙ places-at xs ys i k)
+              ∙ ap (record-at xs) (ap (λ (l : List ℕ). getD l i 0) (only .gives) ∙ getD-places xs ys i k)
               ∙ stands i k .1
 
   pub rolls-named : length xs ≤ maxRecords → seenOrder (places xs ys) (replicate (length xs - 1) 0) ≡ (answered 0 0, rollsInto (length xs) xs ys)
@@ -147,7 +147,7 @@ module _ (xs ys : List ℕ) (d : Distinct xs) (r : Reorders xs ys) where
       let room : length lent ≡ length xs - 1 = length-replicate (length xs - 1) 0 in
       let values : List ℕ = rollsInto (length xs) xs ys in
       let count : length values ≡ length xs - 1 =
-      range-length (shuffleBounds (length xs)) values (truth _ (one-series xs ys d r .in-range)) ∙ shuffle-bounds-length (length xs) in
+      length-in-range (shuffleBounds (length xs)) values (truth _ (one-series xs ys d r .in-range)) ∙ length-shuffle-bounds (length xs) in
       let gives : rollsBehind order (length lent) ≡ done values [] =
       order-done order (length lent) (omega (arith, places-count)) (omega (arith, places-count)) places-order
       ∙ ap (λ (l : List ℕ). done l []) (rw places-count rolls-same) in

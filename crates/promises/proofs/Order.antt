@@ -15,8 +15,8 @@ use Rattle.rules.specs.Reservoir.{countup}
 use Rattle.rules.specs.Run.{next, rejected}
 use Rattle.rules.specs.Shuffle.{shuffleBounds}
 use Rattle.rules.proofs.Each.{rolls-behind}
-use Rattle.rules.proofs.Range.{range-length}
-use Rattle.rules.proofs.Rows.{shuffle-bounds-length}
+use Rattle.rules.proofs.Range.{length-in-range}
+use Rattle.rules.proofs.Rows.{length-shuffle-bounds}
 use Rattle.answers.specs.Outcome.{done, shown}
 use Rattle.answers.specs.declared.answer.Answer.{Answer}
 use Rattle.answers.proofs.Deciding.{decide-past, decide-none, in-count}
@@ -48,7 +48,7 @@ demand2 ys lent a =
     let t : T (isOrder ys) = rw (not-false (isOrder ys) (allowed-cons _ _ c .0)) tt in
     let only = rolls-behind ys t in
     let rs : List ℕ = rollsInto (length ys) (countup (length ys) 0) ys in
-    let n : length rs ≡ length ys - 1 = range-length (shuffleBounds (length ys)) rs (truth _ (only .in-range)) ∙ shuffle-bounds-length (length ys) in
+    let n : length rs ≡ length ys - 1 = length-in-range (shuffleBounds (length ys)) rs (truth _ (only .in-range)) ∙ length-shuffle-bounds (length ys) in
     rw (order-done ys (length lent) (few-records (length ys) count) (ltb-false (length lent) (length ys - 1) room) t)
     (record { none = (refl, refl, refl, refl); rolls = rs; reading = rw n refl; only = only })
 

@@ -6,7 +6,10 @@
 --   allowed-cons, allowed-done  where no refusal applies: none of the list does, and the outcome is not refused
 --   first-is-lowest             of refusals whose numbers rise the first that applies is the lowest
 --   ten-last                    a list that ends with number 10
---   Numbered, settle            two answers that are as refused agree, where they do with no refusal
+--   first-here, first-past      the first refusal, one by one
+--   Numbered, numbered-nil,     a refusal that applies has a number above 0
+--     numbered-no, numbered-word, numbered-words, numbered-bounds
+--   settle                      two answers that are as refused agree, where they do with no refusal
 use mathlib.Core.Path.{_≡_, refl, sym, ap, _∙_}
 use mathlib.Core.Bool.{Bool, true, false}
 use mathlib.Core.Logic.{_≢_}
@@ -82,14 +85,6 @@ allowed-cons r rs a = go (r .applies) refl
 pub allowed-done : (rs : List Refusal) (o : Outcome) → Allowed rs → decide rs o ≡ o
 allowed-done [] o a = decide-none o
 allowed-done (r ∷ rs) o a = let (e, later) = allowed-cons r rs a in decide-past r rs o e ∙ allowed-done rs o later
-
-pub allowed-append : (rs ss : List Refusal) → Allowed (rs ++ ss) → Allowed rs × Allowed ss
-unfolding firstOf
-allowed-append [] ss a = (refl, a)
-allowed-append (r ∷ rs) ss a =
-    let (e, later) = allowed-cons r (rs ++ ss) a in
-    let (b, c) = allowed-append rs ss later in
-    (ap (λ (x : Refusal). x .applies) (first-past r rs e) ∙ b, c)
 
 -- ---- the numbers of a list that ends with number 10
 

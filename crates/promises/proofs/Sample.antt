@@ -19,7 +19,7 @@ use Rattle.rules.specs.Run.{find, run, runFrom, trace, rollsOf, next, rejected}
 use Rattle.rules.specs.Width.{Width, w64}
 use Rattle.rules.proofs.CutPlans.{sample-plan}
 use Rattle.rules.proofs.Facts.{or-right}
-use Rattle.rules.proofs.Reservoir.{sample-length}
+use Rattle.rules.proofs.Reservoir.{length-sample}
 use Rattle.rules.proofs.Widths.{GoodWidth, good64}
 use Rattle.answers.specs.Outcome.{decide, shown}
 use Rattle.answers.specs.declared.answer.Answer.{Answer}
@@ -56,7 +56,7 @@ module _ (W : Width) (g : GoodWidth W) where
       let plan : List (List ℕ) = samplePlan W (length xs) k in
       let good = plan-fits W g (length xs) k (few-records (length xs) count) in
       let rs : List ℕ = rollsOf (W .bits) plan (trace (run (W .bits) plan words start)) in
-      let n = sample-length xs rs k (ltb-false (length xs) k (or-right (ltb k 1) (ltb (length xs) k) size)) in
+      let n = length-sample xs rs k (ltb-false (length xs) k (or-right (ltb k 1) (ltb (length xs) k) size)) in
       rw (allowed-done _ _ a) (record { none = (refl, refl); method = by-method (W .bits) plan words start d (good .rollable) w _ (rw n refl) })
 
   -- two that go by the method on one call

@@ -18,7 +18,7 @@ use Rattle.rules.specs.Cut.{cut}
 use Rattle.rules.specs.Run.{Run, run, runFrom, trace, rollsOf, next, rejected}
 use Rattle.rules.specs.Width.{Width, w64}
 use Rattle.rules.proofs.Facts.{or-left, or-right}
-use Rattle.rules.proofs.Reservoir.{sample-length}
+use Rattle.rules.proofs.Reservoir.{length-sample}
 use Rattle.rules.proofs.Widths.{GoodWidth, good64}
 use Rattle.answers.specs.Outcome.{Refusal, no, noWord, ofWords, outside, left}
 use Rattle.answers.specs.declared.answer.Answer.{Answer}
@@ -26,7 +26,7 @@ use Rattle.draws.specs.Sample.{samplePlan, sampled}
 use Rattle.sheet.specs.Sheet.{little, number, numbers, entries, wordsOf, recordsOf, isSound}
 use Rattle.sheet.specs.Operations.{sheetRefusals, runSheet, drawnBy, shownDrawn, seenSheet}
 use Rattle.sheet.specs.declared.run.Drawn.{Drawn}
-use Rattle.sheet.proofs.Soundness.{sound-known, sound-iff, entries-length, sheet-records}
+use Rattle.sheet.proofs.Soundness.{sound-known, sound-iff, length-entries, sheet-records}
 use Rattle.promises.specs.Demand1.{firstOf}
 use Rattle.promises.specs.Demand2.{Allowed, ByMethod}
 use Rattle.promises.specs.Sheet.{Op, Bytes, CanMeet, Fits, answerOf, Draws, Demand1, Demand2, Settled, StandIns, Promise}
@@ -84,7 +84,7 @@ module _ (g : GoodWidth w64) (s lent : List ℕ) (a : Allowed (sheetRefusals w64
   plan = samplePlan w64 (numbers s .records) k
 
   count : length xs ≡ numbers s .records
-  count = entries-length 4 (numbers s .records) (numbers s .recordsAt) s
+  count = length-entries 4 (numbers s .records) (numbers s .recordsAt) s
 
   few : numbers s .records ≤ maxRecords
   few = let v = sound-known s (not-false (isSound s) (allowed-cons _ _ a .0)) in omega (arith, sheet-records s v, count)
@@ -104,7 +104,7 @@ module _ (g : GoodWidth w64) (s lent : List ℕ) (a : Allowed (sheetRefusals w64
   unfolding runSheet
   draws b =
       let ran = allowed-done (sheetRefusals w64 s (length lent)) (sampled w64 (wordsOf s) 0 xs k) a in
-      let n = sample-length xs (rollsOf 64 plan (trace (run 64 plan (wordsOf s) 0))) k size in
+      let n = length-sample xs (rollsOf 64 plan (trace (run 64 plan (wordsOf s) 0))) k size in
       rw (ran, count) (record {
         sample = record { none = (refl, refl); method = by-method 64 plan (wordsOf s) 0 words-left rollable (fits s b .0) _ (rw n refl) };
         six = refl;

@@ -1,10 +1,12 @@
 -- The bounds of one batch, as the code looks at them. Assumes nothing.
 --
 --   checked-count, checked-zero,       the answer, by what the code finds
---     checked-above, checked-held
+--     checked-above, checked-below, checked-whole
 --   BoundsRefused, BoundsHeld          what an answer says of the bounds
 --   told-refused, told-held            by its variant
---   held-product                       bounds that are held have their product from 1 to 2^64, and it is known by how it wraps
+--   some-bounds, few-bounds,           bounds that are held are 1 to 16, with a product of at most 2^64
+--     fit-product
+--   unwrap-held                        which is known by how it wraps
 use mathlib.Core.Path.{_≡_, refl, sym, ap, _∙_}
 use mathlib.Core.Bool.{true, false}
 use mathlib.Core.List.{List, []}

@@ -3,6 +3,7 @@
 --   one-refused        bounds that are refused
 --   one-start          number 9
 --   one-not-found      number 10, where the search finds no word
+--   found-within       a word that it finds is one of the list
 --   one-found          the rolls in front of zeros, as the caller sees them, where it finds one
 use mathlib.Core.Path.{_≡_, sym, ap, ap₂, _∙_}
 use mathlib.Core.List.{List, [], _∷_, _++_, append-nil}
@@ -15,7 +16,7 @@ use Rattle.rules.specs.Rolls.{rolls, accepted}
 use Rattle.rules.specs.Run.{Taken, found, missing, find, Run, ran, suffices, runFrom, run, trace, rollsOf, next, rejected}
 use Rattle.rules.specs.Width.{Width}
 use Rattle.rules.proofs.Finding.{find-within}
-use Rattle.rules.proofs.Rolls.{rolls-length}
+use Rattle.rules.proofs.Rolls.{length-rolls}
 use Rattle.rules.proofs.Running.{run-hit, run-missing}
 use Rattle.answers.specs.Outcome.{Outcome, refused, done, decide, ofBounds, ofWords, fromRun, shownBatch}
 use Rattle.answers.specs.declared.answer.Batch.{Batch}
@@ -38,7 +39,7 @@ shown-hit : (L : ℕ) (bs : List ℕ) (start w place : ℕ) (out : List ℕ) →
     ≡ shownBatch start (done (rolls L bs w) (record { place = place; word = w } ∷ []))
 unfolding next rejected
 shown-hit L bs start w place out e =
-    let n : length bs ≡ length (rolls L bs w) = sym (rolls-length L bs w) in
+    let n : length bs ≡ length (rolls L bs w) = sym (length-rolls L bs w) in
     let z : out ≡ rolls L bs w ++ replicate (maxBatch - length (rolls L bs w)) 0
     = e ∙ ap (λ (k : ℕ). rolls L bs w ++ drop k (replicate maxBatch 0)) n ∙ ap (λ (l : List ℕ). rolls L bs w ++ l) (drop-zeros (length (rolls L bs w)) maxBatch) in
     let m : place - start ≡ place - start + 0 = omega arith in

@@ -1,3 +1,10 @@
+-- One batch of a plan, by the answer of the search for its word. Over every width. Assumes nothing.
+--
+--   finish, finish-none             whether the words suffice, of a run that is begun
+--   finish-hit, hit-suffices,       one batch on, where it got a word
+--     hit-rolled
+--   hit-passed, hit-within          how many words that batch rejected, and where its word stands
+--   finish-missing, never-missing   where no word is left
 use mathlib.Core.Path.{_≡_, refl, sym, ap, _∙_}
 use mathlib.Core.Bool.{Bool, true, false}
 use mathlib.Core.List.{List, _∷_, _++_}

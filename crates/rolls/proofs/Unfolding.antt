@@ -1,3 +1,8 @@
+-- The loop that writes a word's rolls to the front of a lent list. Over every width. Assumes nothing.
+--
+--   Unfolding      the rolls of the first bounds are written, and r is what they left
+--   unfold-turn    one turn
+--   unfold-done    all are written, and the rest of the list is as it was
 use mathlib.Core.Path.{_≡_, sym, _∙_}
 use mathlib.Core.List.{List, [], _∷_, _++_, append-assoc, append-nil}
 use Prim.Native.Nat.{ℕ, _+_, _*_, _/_, _%_, _^_, _<_, _≤_}

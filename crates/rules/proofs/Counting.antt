@@ -5,7 +5,7 @@
 --   distinct-once, once-distinct   no two are alike exactly where each is counted once at most
 --   total                          how often 0, .., n - 1 stand in a list, added up
 --   total-all, total-below         it is the length exactly where all are below n
---   reorders-length                an order of a list is as long
+--   length-reorders                an order of a list is as long
 use mathlib.Core.Path.{_≡_, refl, sym, ap, _∙_}
 use mathlib.Core.List.{List, [], _∷_}
 use Prim.Native.Nat.{ℕ, zero, suc, suc-le-suc, zero-le, _+_, _<_, _≤_}
@@ -176,5 +176,5 @@ below-top (x ∷ xs) (suc i) h = omega (arith, below-top xs i (le-of-suc-le-suc 
 no-shorter : (xs ys : List ℕ) → Reorders xs ys → length xs ≤ length ys
 no-shorter xs ys r = omega (arith, total-all (top xs) xs (below-top xs), total-same (top xs) xs ys r, total-most (top xs) ys)
 
-pub reorders-length : (xs ys : List ℕ) → Reorders xs ys → length ys ≡ length xs
-reorders-length xs ys r = omega (arith, no-shorter xs ys r, no-shorter ys xs (λ x. sym (r x)))
+pub length-reorders : (xs ys : List ℕ) → Reorders xs ys → length ys ≡ length xs
+length-reorders xs ys r = omega (arith, no-shorter xs ys r, no-shorter ys xs (λ x. sym (r x)))

@@ -1,3 +1,8 @@
+-- The batches of a list of bounds, and of a sample, are its bounds in their order, and each can be rolled. Over every limit. Assumes nothing.
+--
+--   Bounded        each bound is 1 or more, and at most so much
+--   cut-plan       the batches of a list of bounds
+--   sample-plan    and those of a sample
 use mathlib.Core.Path.{_≡_, refl, ap, _∙_}
 use mathlib.Core.Bool.{Bool, true, false, and-eq-true-iff}
 use mathlib.Core.List.{List, [], _∷_, _++_}
@@ -13,7 +18,7 @@ use Rattle.rules.proofs.Products.{product-snoc}
 use Rattle.rules.specs.Cut.{joins, cutFrom, cut}
 use Rattle.rules.specs.Reservoir.{countup}
 use Rattle.rules.specs.Plan.{joined, Rollable, PlanOf}
-use Rattle.rules.proofs.Rows.{countup-at, countup-length}
+use Rattle.rules.proofs.Rows.{getD-countup, length-countup}
 
 abbrev pub Bounded : ℕ → List ℕ → Type 0
 Bounded most bs = (i : ℕ) → i < length bs → (0 < getD bs i 0) × (getD bs i 0 ≤ most)
@@ -74,5 +79,5 @@ module _ (limit most : ℕ) (l : limit ≤ most) where
     where
       each : Bounded most (countup (n - k) (k + 1))
       each i f =
-          let j : i < n - k = rw countup-length at f in
-          rw (countup-at (n - k) (k + 1) i j) (omega arith, omega arith)
+          let j : i < n - k = rw length-countup at f in
+          rw (getD-countup (n - k) (k + 1) i j) (omega arith, omega arith)

@@ -18,7 +18,7 @@ use lib.ListN.{length}
 use Rattle.rules.proofs.Facts.{both}
 use Rattle.rules.specs.Reservoir.{countup}
 use Rattle.rules.specs.Order.{count, eachOnce, isOrder, rollsInto, AllBelow, Distinct, Reorders, Only}
-use Rattle.rules.proofs.Rows.{countup-length, countup-at}
+use Rattle.rules.proofs.Rows.{length-countup, getD-countup}
 use Rattle.rules.proofs.Orders.{one-series}
 use Rattle.rules.proofs.Counting.{Among, count-among, distinct-once, once-distinct, total, total-all, total-below}
 
@@ -77,9 +77,9 @@ order-among ys t x h = count-among x ys (omega (arith, each-count (length ys) ys
 
 pub countup-distinct : (n : ℕ) → Distinct (countup n 0)
 countup-distinct n i j hi hj e =
-    let ki : i < n = rw countup-length at hi in
-    let kj : j < n = rw countup-length at hj in
-    omega (arith, sym (countup-at n 0 i ki) ∙ e ∙ countup-at n 0 j kj)
+    let ki : i < n = rw length-countup at hi in
+    let kj : j < n = rw length-countup at hj in
+    omega (arith, sym (getD-countup n 0 i ki) ∙ e ∙ getD-countup n 0 j kj)
 
 -- a number from n on stands in neither
 pub order-reorders : (ys : List ℕ) → T (isOrder ys) → Reorders (countup (length ys) 0) ys
@@ -92,7 +92,7 @@ order-reorders ys t x = go (decLt x n)
     row = countup n 0
 
     row-order : T (isOrder row)
-    row-order = order-iff row .1 (λ i h. rw (countup-at n 0 i (rw countup-length at h), countup-length) (omega (arith, countup-length n 0)), countup-distinct n)
+    row-order = order-iff row .1 (λ i h. rw (getD-countup n 0 i (rw length-countup at h), length-countup) (omega (arith, length-countup n 0)), countup-distinct n)
 
     none : (zs : List ℕ) → AllBelow n zs → n ≤ x → count x zs ≡ 0
     none zs b h = clear (decLt 0 (count x zs))
@@ -102,12 +102,12 @@ order-reorders ys t x = go (decLt x n)
         clear (no k) = omega arith
 
     go : Dec (x < n) → count x ys ≡ count x row
-    go (yes h) = each-count n ys t x h ∙ sym (each-count (length row) row row-order x (omega (arith, countup-length n 0)))
+    go (yes h) = each-count n ys t x h ∙ sym (each-count (length row) row row-order x (omega (arith, length-countup n 0)))
     go (no h) =
         none ys (order-iff ys .0 t .0) (omega arith)
-        ∙ sym (none row (λ i k. omega (arith, order-iff row .0 row-order .0 i k, countup-length n 0)) (omega arith))
+        ∙ sym (none row (λ i k. omega (arith, order-iff row .0 row-order .0 i k, length-countup n 0)) (omega arith))
 
 pub rolls-behind : (ys : List ℕ) → T (isOrder ys) → Only (length ys) (countup (length ys) 0) ys (rollsInto (length ys) (countup (length ys) 0) ys)
 rolls-behind ys t =
     let n : ℕ = length ys in
-    rw (countup-length n 0) at (one-series (countup n 0) ys (countup-distinct n) (order-reorders ys t))
+    rw (length-countup n 0) at (one-series (countup n 0) ys (countup-distinct n) (order-reorders ys t))

@@ -1,3 +1,10 @@
+-- What stands where after an exchange. Assumes nothing.
+--
+--   length-exchange                  it keeps the number of records
+--   exchange-last, exchange-first,   the two places, and every other
+--     exchange-other
+--   among-after                      it loses no record
+--   exchange-distinct                and keeps different records different
 use mathlib.Core.Path.{_≡_, sym, ap, _∙_}
 use mathlib.Core.Logic.{_≢_}
 use mathlib.Core.List.{List}

@@ -1,3 +1,8 @@
+-- Facts of no subject. Assumes nothing.
+--
+--   both                two tests pass together exactly where each passes
+--   clash               a case that does not arise
+--   or-left, or-right   each of two tests fails where neither passes
 use mathlib.Core.Path.{_≡_, refl}
 use mathlib.Core.Logic.{_↔_}
 use mathlib.Core.Bool.{Bool, true, false, _&&_, _||_}

@@ -2,8 +2,7 @@
 --
 --   find-end, find-hit, find-miss    one step of the search, at a place of the list
 --   find-within                      a word found is one of the list
---   find-batch                       the test by the low half of the product finds what the test of the last r finds
---   searched-hit, searched-missing   what the answer of a search says of it
+--   find-same                        two tests that agree find the same
 use mathlib.Core.Path.{_≡_, refl, ap, _∙_, fun-ext, subst}
 use mathlib.Core.Bool.{Bool, true, false}
 use mathlib.Core.List.{List, [], _∷_}

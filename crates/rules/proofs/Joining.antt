@@ -84,12 +84,12 @@ module _ (L : ℕ) (q : List (List ℕ)) (words : List ℕ) where
 
 -- ---- what is read off the two traces
 
-after-length : (t : Taken) (r : Run) (us : List Taken) → after t r ≡ ran us → (ts : List Taken) × (r ≡ ran ts) × (us ≡ t ∷ ts)
-after-length t (ran ts) us e =
+after-ran : (t : Taken) (r : Run) (us : List Taken) → after t r ≡ ran us → (ts : List Taken) × (r ≡ ran ts) × (us ≡ t ∷ ts)
+after-ran t (ran ts) us e =
     let f : ran (t ∷ ts) ≡ ran us = e in
     let same : us ≡ t ∷ ts = cc in
     (ts, refl, same)
-after-length t (short k) us e = clash cc
+after-ran t (short k) us e = clash cc
 
 pub length-trace : (L : ℕ) (p : List (List ℕ)) (words : List ℕ) (start batch : ℕ) (ts : List Taken) → runFrom L p words start batch ≡ ran ts → length ts ≡ length p
 unfolding runFrom
@@ -103,7 +103,7 @@ length-trace L (bs ∷ p) words start batch ts e = go (find (accepted L bs) (dro
         → ((start batch : ℕ) (us : List Taken) → runFrom L p words start batch ≡ ran us → length us ≡ length p) → length ts ≡ suc (length p)
     go missing f ih = let z : short batch ≡ ran ts = sym (run-missing L bs p words start batch f) ∙ e in clash cc
     go (found t) f ih =
-        let (us, g, h) = after-length t (runFrom L p words (t .place + 1) (batch + 1)) ts (sym (run-hit L bs p words start batch f) ∙ e) in
+        let (us, g, h) = after-ran t (runFrom L p words (t .place + 1) (batch + 1)) ts (sym (run-hit L bs p words start batch f) ∙ e) in
         ap length h ∙ ap suc (ih (t .place + 1) (batch + 1) us g)
 
 pub rolls-append : (L : ℕ) (p q : List (List ℕ)) (ts us : List Taken) → length ts ≡ length p

@@ -1,8 +1,6 @@
 -- Orders of different records and series of rolls: each series in range gives an order, and each order comes from one series, the one
 -- that is looked up. The batches play no part: a shuffle is one flat series with the bounds n, n - 1, .., 2. Assumes nothing.
 --
---   length-exchange, exchange-last,                  what stands where after an exchange
---     exchange-first, exchange-other
 --   place-of                                         the place of a record that stands at one place
 --   range-cons                                       one roll in range of a shuffle's bounds
 --   length-shuffle                                   a shuffle keeps the number of records
@@ -10,8 +8,9 @@
 --   Reordered, reordered                             an order of different records, place by place
 --   Midway, midway-start, midway-roll, midway-step   shuffled into an order from the end down to a place
 --   rolls-into-step, rolls-into-none                 one roll behind an order; none for 0 or 1 record
---   rolls-into-length                                how many rolls are behind an order
+--   length-rolls-into                                how many rolls are behind an order
 --   one-series                                       for each order the rolls looked up, and no others in range, give it
+--   shuffle-append                                   one series of rolls, and then another
 use mathlib.Core.Path.{_≡_, refl, sym, ap, ap₂, _∙_, subst}
 use mathlib.Core.Logic.{_↔_}
 use mathlib.Core.Bool.{Bool, true, false}
@@ -30,7 +29,7 @@ use Rattle.rules.proofs.Range.{in-range-cons}
 use Rattle.rules.specs.Shuffle.{exchange, shuffleWith, shuffleBounds}
 use Rattle.rules.specs.Order.{placeOf, rollsInto, Distinct, Reorders, Only}
 use Rattle.rules.proofs.Rows.{no-bounds, bounds-cons}
-use Rattle.rules.proofs.Counting.{Among, counted, count-among, count-exchange, distinct-once, once-distinct, reorders-length}
+use Rattle.rules.proofs.Counting.{Among, counted, count-among, count-exchange, distinct-once, once-distinct, length-reorders}
 use Rattle.rules.proofs.Exchanging.{exchange-distinct, exchange-last, exchange-other, length-exchange, among-after}
 
 -- ---- the place of a record
@@ -97,7 +96,7 @@ pub record Reordered (xs ys : List ℕ) : Type 0 where
 
 pub reordered : (xs ys : List ℕ) → Distinct xs → Reorders xs ys → Reordered xs ys
 reordered xs ys d r = record {
-  same-length = reorders-length xs ys r;
+  same-length = length-reorders xs ys r;
   among = λ i h. let y : ℕ = getD ys i 0 in count-among y xs (omega (arith, r y, counted y ys i h refl));
   distinct = once-distinct ys (λ x. omega (arith, r x, distinct-once xs d x));
 }
@@ -217,12 +216,12 @@ rolls-into-none zero xs ys h = refl
 rolls-into-none (suc zero) xs ys h = refl
 rolls-into-none (suc (suc m)) xs ys h = absurd (let z : ⊥ = omega arith in z)
 
-pub rolls-into-length : (m : ℕ) (xs ys : List ℕ) → length (rollsInto m xs ys) ≡ m - 1
+pub length-rolls-into : (m : ℕ) (xs ys : List ℕ) → length (rollsInto m xs ys) ≡ m - 1
 unfolding rollsInto
-rolls-into-length zero xs ys = omega arith
-rolls-into-length (suc zero) xs ys = omega arith
-rolls-into-length (suc (suc m)) xs ys =
-    ap suc (rolls-into-length (suc m) (exchange xs (placeOf (getD ys (suc m) 0) xs) (suc m)) ys) ∙ omega arith
+length-rolls-into zero xs ys = omega arith
+length-rolls-into (suc zero) xs ys = omega arith
+length-rolls-into (suc (suc m)) xs ys =
+    ap suc (length-rolls-into (suc m) (exchange xs (placeOf (getD ys (suc m) 0) xs) (suc m)) ys) ∙ omega arith
 
 only : (m : ℕ) (xs ys : List ℕ) → Midway m xs ys → Only m xs ys (rollsInto m xs ys)
 only zero xs ys w = unfold rollsInto in only-none w (omega arith)

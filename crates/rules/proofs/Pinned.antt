@@ -16,7 +16,7 @@ use Rattle.rules.specs.Pinned.{Pinned}
 use Rattle.rules.proofs.Range.{in-range-cons, range-count}
 use Rattle.rules.proofs.Rolls.{key-law, rest-below, rolls-in-range}
 use Rattle.rules.proofs.Words.{words-behind, last-fits, run-length}
-use Rattle.rules.proofs.Rows.{countdown-length, countdown-at, countup-length, countup-at}
+use Rattle.rules.proofs.Rows.{length-countdown, getD-countdown, length-countup, getD-countup}
 use Rattle.rules.proofs.PinnedCut.{cut-pinned}
 use Rattle.rules.proofs.PinnedSizes.{sizes-pinned}
 use Rattle.rules.proofs.PinnedShuffle.{shuffle-pinned}
@@ -86,7 +86,7 @@ pinned = record {
     range = λ bs rs. (λ t. (as-many bs rs t, below-at bs rs t), λ (e, h). at-range bs rs e h);
   };
   of-cuts = cut-pinned;
-  of-rows = record { down = λ s m. (countdown-length s m, countdown-at s m); up = λ s m. (countup-length s m, countup-at s m) };
+  of-rows = record { down = λ s m. (length-countdown s m, getD-countdown s m); up = λ s m. (length-countup s m, getD-countup s m) };
   of-sizes = sizes-pinned;
   of-shuffles = shuffle-pinned;
   of-reservoirs = reservoir-pinned;

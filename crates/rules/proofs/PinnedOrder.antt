@@ -12,7 +12,7 @@ use lib.ListN.{length, getD}
 use Rattle.rules.specs.Reservoir.{countup}
 use Rattle.rules.specs.Order.{count, isOrder, AllBelow, Distinct, Reorders}
 use Rattle.rules.specs.Pinned.{OnePlace, OrderPinned}
-use Rattle.rules.proofs.Rows.{countup-length, countup-at}
+use Rattle.rules.proofs.Rows.{length-countup, getD-countup}
 use Rattle.rules.proofs.Orders.{Reordered, reordered}
 use Rattle.rules.proofs.Counting.{counted, total, total-below}
 use Rattle.rules.proofs.Each.{order-iff, order-among, order-reorders, countup-distinct, rolls-behind}
@@ -53,8 +53,8 @@ of-row ys r = order-iff ys .1 (low, w .distinct)
     low : AllBelow n ys
     low i h =
         let (p, k, e) = w .among i h in
-        let l : p < n = rw countup-length at k in
-        omega (arith, sym e ∙ countup-at n 0 p l)
+        let l : p < n = rw length-countup at k in
+        omega (arith, sym e ∙ getD-countup n 0 p l)
 
 pub order-pinned : OrderPinned
 order-pinned = record {

@@ -13,7 +13,7 @@ use lib.ListN.{length, take, drop, set, getD, length-set, length-drop}
 use lib.Seq.{set-out, getD-set-same, getD-set-other, getD-take, getD-drop, length-take-le}
 use Rattle.rules.specs.Reservoir.{reservoir}
 use Rattle.rules.specs.Pinned.{LastAt, Nowhere, ReservoirPinned}
-use Rattle.rules.proofs.Reservoir.{sample-length, reservoir-taken, reservoir-passed}
+use Rattle.rules.proofs.Reservoir.{length-sample, reservoir-taken, reservoir-passed}
 
 -- ---- one record
 
@@ -59,7 +59,7 @@ left slots (x ∷ xs) (r ∷ js) j e h = rw one-record (go (left (set slots r x)
 
 pub reservoir-pinned : (k : ℕ) (xs js : List ℕ) → k + length js ≡ length xs → ReservoirPinned k xs js (reservoir (take k xs) (drop k xs) js)
 reservoir-pinned k xs js e = record {
-  count = sample-length xs js k few;
+  count = length-sample xs js k few;
   slot = λ j h. go j h (left (take k xs) (drop k xs) js j (length-drop k xs ∙ omega arith) (rw (length-take-le k xs few) h));
 }
   where

@@ -1,3 +1,10 @@
+-- The product of bounds, and bounds that are 0. Assumes nothing.
+--
+--   product-pos-head, product-pos-tail   where a product is 1 or more, so is each factor
+--   product-snoc, product-more           a product with one bound more
+--   zero-nowhere                         where no bound is 0, each is 1 or more
+--   zero-here, zero-later, zero-none     whether some bound from a place on is 0
+--   product-some, product-pos            the product of bounds that are all 1 or more is 1 or more
 use mathlib.Core.Path.{_≡_, ap}
 use mathlib.Core.Bool.{true, false}
 use mathlib.Core.List.{List, [], _∷_, _++_}

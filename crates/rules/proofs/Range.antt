@@ -1,3 +1,12 @@
+-- Rolls in range of their bounds. Assumes nothing.
+--
+--   in-range-cons                           rolls in range, one roll at a time
+--   range-count                             rolls that are not as many as the bounds are not in range
+--   range-reached, range-below, range-end   whether the rolls from a place on are in range
+--   range-true                              a test that passes
+--   length-in-range                            rolls in range are as many as the bounds
+--   range-later                             and so they are from any place on
+--   range-split, range-join                 rolls in range, batch by batch
 use mathlib.Core.Path.{_≡_, refl, sym, ap, ap₂, _∙_, subst}
 use mathlib.Core.Logic.{_↔_}
 use mathlib.Core.Bool.{Bool, true, false, _&&_, and-false}
@@ -54,8 +63,8 @@ same-count [] (r ∷ rs) t = absurd t
 same-count (b ∷ bs) [] t = absurd t
 same-count (b ∷ bs) (r ∷ rs) t = ap suc (same-count bs rs (in-range-cons b bs r rs .0 t .1))
 
-pub range-length : (bs rs : List ℕ) → inRange bs rs ≡ true → length rs ≡ length bs
-range-length bs rs e = same-count bs rs (range-true bs rs e)
+pub length-in-range : (bs rs : List ℕ) → inRange bs rs ≡ true → length rs ≡ length bs
+length-in-range bs rs e = same-count bs rs (range-true bs rs e)
 
 pub range-later : (i : ℕ) (bs rs : List ℕ) → T (inRange bs rs) → T (inRange (drop i bs) (drop i rs))
 unfolding inRange

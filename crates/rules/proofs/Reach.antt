@@ -1,14 +1,8 @@
 -- Which words give which rolls, over every width and plan: with one word for each batch, a run over the plan gives the rolls exactly
--- when each word lies in its batch's run. No word may be rejected, since fewer words than batches are too few. From this and the one
--- series of rolls behind an order: which words shuffle the records into which order. Assumes nothing.
+-- when each word lies in its batch's run. No word may be rejected, since fewer words than batches are too few. Assumes nothing.
 --
---   range-split                rolls in range, batch by batch
 --   rolled-in-range            the rolls of a run are in range
 --   words-in-runs              one word for each batch: the run gives the rolls exactly when each word lies in its run
---   shuffleRun, shuffleRolls   the run of a shuffle, and its rolls
---   shuffle-gives              a shuffle gives an order exactly when each batch got its word and the rolls give the order
---   shuffle-in-runs            one word for each batch: the shuffle gives the order exactly when each word lies in its batch's run
---   shuffle-in-runs64          the same, at 64 bits
 use mathlib.Core.Path.{_≡_, refl, sym, ap, ap₂, _∙_, subst}
 use mathlib.Core.Logic.{_↔_}
 use mathlib.Core.Bool.{Bool, true, false}
@@ -19,7 +13,7 @@ use lib.Dec.{T}
 use lib.ListN.{length, take, drop, getD, take-append-drop, drop-of-length-le}
 use lib.Seq.{take-at, drop-at}
 use Rattle.rules.specs.Rolls.{rolls, accepted, inRange}
-use Rattle.rules.proofs.Rolls.{rolls-length, rolls-in-range}
+use Rattle.rules.proofs.Rolls.{length-rolls, rolls-in-range}
 use Rattle.rules.proofs.Range.{range-split, range-join}
 use Rattle.rules.proofs.Words.{words-behind}
 use Rattle.rules.specs.Run.{Taken, Found, found, missing, find, Run, ran, short, after, runFrom, run, trace, rollsOf, suffices}
@@ -79,7 +73,7 @@ unfolding rollsOf
 rolled-after L bs plan rs t (ran ts) =
     let mine : List ℕ = rolls L bs (t .word) in
     let later : List ℕ = rollsOf L plan ts in
-    let n : length mine ≡ length bs = rolls-length L bs (t .word) in (
+    let n : length mine ≡ length bs = length-rolls L bs (t .word) in (
       λ (s, e). (sym (take-at mine later (length bs) n) ∙ ap (take (length bs)) e, (s, sym (drop-at mine later (length bs) n) ∙ ap (drop (length bs)) e)),
       λ (e, g). (g .0, ap₂ _++_ e (g .1) ∙ take-append-drop (length bs) rs),
     )

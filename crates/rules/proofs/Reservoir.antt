@@ -1,3 +1,8 @@
+-- The reservoir, one later record at a time. Assumes nothing.
+--
+--   length-sample                       as many values as slots
+--   reservoir-taken, reservoir-passed   a record that takes a slot, and one that takes none
+--   reservoir-none                      no roll is left
 use mathlib.Core.Path.{_≡_, refl, _∙_}
 use mathlib.Core.Bool.{Bool, true, false}
 use mathlib.Core.List.{List, [], _∷_}
@@ -10,18 +15,18 @@ use borrow.Author.Tests.{lt-ltb, le-ltb}
 
 -- ---- as many values as slots
 
-reservoir-length : (slots xs js : List ℕ) → length (reservoir slots xs js) ≡ length slots
+length-reservoir : (slots xs js : List ℕ) → length (reservoir slots xs js) ≡ length slots
 unfolding reservoir
-reservoir-length slots [] js = refl
-reservoir-length slots (x ∷ xs) [] = refl
-reservoir-length slots (x ∷ xs) (j ∷ js) = reservoir-length _ xs js ∙ go (ltb j (length slots))
+length-reservoir slots [] js = refl
+length-reservoir slots (x ∷ xs) [] = refl
+length-reservoir slots (x ∷ xs) (j ∷ js) = length-reservoir _ xs js ∙ go (ltb j (length slots))
   where
     go : (t : Bool) → length {A = ℕ} (elim t [ true ↦ set slots j x | false ↦ slots ]) ≡ length slots
     go true = length-set slots j x
     go false = refl
 
-pub sample-length : (xs js : List ℕ) (k : ℕ) → k ≤ length xs → length (reservoir (take k xs) (drop k xs) js) ≡ k
-sample-length xs js k h = reservoir-length (take k xs) (drop k xs) js ∙ length-take-le k xs h
+pub length-sample : (xs js : List ℕ) (k : ℕ) → k ≤ length xs → length (reservoir (take k xs) (drop k xs) js) ≡ k
+length-sample xs js k h = length-reservoir (take k xs) (drop k xs) js ∙ length-take-le k xs h
 
 -- ---- the later records
 

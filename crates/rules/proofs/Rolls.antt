@@ -3,10 +3,7 @@
 --   key-law                              product times word = 2^L times the value of the rolls + the last r
 --   rest-below                           the last r is below 2^L
 --   rest-low                             the last r is the low half of product times word: no unfolding is needed to test a word
---   rolls-length                         as many rolls as bounds
---   product-pos-head, product-pos-tail   where a product is 1 or more, so is each factor
---   both                                 two tests pass together exactly where each passes
---   in-range-cons                        rolls in range, one roll at a time
+--   length-rolls                         as many rolls as bounds
 --   roll-below, rolls-in-range           each roll is below its bound
 --   value-below                          rolls in range have a value below the product
 --   value-one                            and no two of them have the same
@@ -47,10 +44,10 @@ rest-low L b bs r =
 
 -- ---- the rolls
 
-pub rolls-length : (L : ℕ) (bs : List ℕ) (r : ℕ) → length (rolls L bs r) ≡ length bs
+pub length-rolls : (L : ℕ) (bs : List ℕ) (r : ℕ) → length (rolls L bs r) ≡ length bs
 unfolding rolls
-rolls-length L [] r = refl
-rolls-length L (b ∷ bs) r = ap suc (rolls-length L bs (b * r % 2 ^ L))
+length-rolls L [] r = refl
+length-rolls L (b ∷ bs) r = ap suc (length-rolls L bs (b * r % 2 ^ L))
 
 pub roll-below : (L b r : ℕ) → 0 < b → r < 2 ^ L → b * r / 2 ^ L < b
 roll-below L b r p h = (div-lt-iff-lt-mul (pow-pos L)) .1 (mul-lt-mul-of-pos-left h p)

@@ -1,3 +1,10 @@
+-- Numbers in a row, as the bounds of a shuffle and of a sample are. Assumes nothing.
+--
+--   length-countdown, countdown-cons, getD-countdown   m, m - 1, ..
+--   length-countup, getD-countup                       i, i + 1, ..
+--   length-shuffle-bounds, no-bounds, bounds-cons    the bounds n, n - 1, .., 2
+--   countdown-add                                    one row after the other
+--   product-countdown                                the product of a row is 1 or more, and at most a power
 use mathlib.Core.Path.{_≡_, refl, ap, _∙_}
 use mathlib.Core.List.{List, [], _∷_, _++_}
 use Prim.Native.Nat.{ℕ, zero, suc, _+_, _-_, _^_, _<_, _≤_}
@@ -10,35 +17,35 @@ use Rattle.rules.specs.Reservoir.{countup}
 
 -- ---- numbers in a row
 
-pub countdown-length : (s m : ℕ) → length (countdown s m) ≡ s
+pub length-countdown : (s m : ℕ) → length (countdown s m) ≡ s
 unfolding countdown
-countdown-length zero m = refl
-countdown-length (suc s) m = ap suc (countdown-length s (m - 1))
+length-countdown zero m = refl
+length-countdown (suc s) m = ap suc (length-countdown s (m - 1))
 
 pub countdown-cons : (s m : ℕ) → 0 < s → countdown s m ≡ m ∷ countdown (s - 1) (m - 1)
 unfolding countdown
 countdown-cons zero m h = absurd (not-suc-le-zero h)
 countdown-cons (suc s) m h = let e : s ≡ suc s - 1 = omega arith in ap (λ (k : ℕ). m ∷ countdown k (m - 1)) e
 
-pub countdown-at : (s m i : ℕ) → i < s → getD (countdown s m) i 0 ≡ m - i
+pub getD-countdown : (s m i : ℕ) → i < s → getD (countdown s m) i 0 ≡ m - i
 unfolding countdown
-countdown-at zero m i h = absurd (not-suc-le-zero h)
-countdown-at (suc s) m zero h = omega arith
-countdown-at (suc s) m (suc i) h = countdown-at s (m - 1) i (le-of-suc-le-suc h) ∙ omega arith
+getD-countdown zero m i h = absurd (not-suc-le-zero h)
+getD-countdown (suc s) m zero h = omega arith
+getD-countdown (suc s) m (suc i) h = getD-countdown s (m - 1) i (le-of-suc-le-suc h) ∙ omega arith
 
-pub countup-length : (s i : ℕ) → length (countup s i) ≡ s
+pub length-countup : (s i : ℕ) → length (countup s i) ≡ s
 unfolding countup
-countup-length zero i = refl
-countup-length (suc s) i = ap suc (countup-length s (i + 1))
+length-countup zero i = refl
+length-countup (suc s) i = ap suc (length-countup s (i + 1))
 
-pub countup-at : (s i k : ℕ) → k < s → getD (countup s i) k 0 ≡ i + k
+pub getD-countup : (s i k : ℕ) → k < s → getD (countup s i) k 0 ≡ i + k
 unfolding countup
-countup-at zero i k h = absurd (not-suc-le-zero h)
-countup-at (suc s) i zero h = omega arith
-countup-at (suc s) i (suc k) h = countup-at s (i + 1) k (le-of-suc-le-suc h) ∙ omega arith
+getD-countup zero i k h = absurd (not-suc-le-zero h)
+getD-countup (suc s) i zero h = omega arith
+getD-countup (suc s) i (suc k) h = getD-countup s (i + 1) k (le-of-suc-le-suc h) ∙ omega arith
 
-pub shuffle-bounds-length : (n : ℕ) → length (shuffleBounds n) ≡ n - 1
-shuffle-bounds-length n = countdown-length (n - 1) n
+pub length-shuffle-bounds : (n : ℕ) → length (shuffleBounds n) ≡ n - 1
+length-shuffle-bounds n = length-countdown (n - 1) n
 
 pub no-bounds : (m : ℕ) → m ≤ 1 → shuffleBounds m ≡ []
 unfolding countdown

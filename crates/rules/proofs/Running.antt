@@ -1,12 +1,9 @@
 -- The run over a plan, batch by batch, over every width. Assumes nothing.
 --
 --   run-hit, run-missing                   the next batch got a word, or none
---   finish, finish-none                    whether the words suffice, of a run that is begun
 --   rolledBy                               the rolls of a run
 --   after-suffices                         a run with one batch more in front suffices where it does
---   finish-hit, hit-suffices, hit-rolled   one batch on, by the answer of the search
---   hit-passed, hit-within                 how many words that batch rejected, and where its word stands
---   finish-missing, never-missing          no word is left
+--   after-rolled                           and its rolls are those of that batch and then its own
 use mathlib.Core.Path.{_≡_, refl}
 use mathlib.Core.Bool.{true}
 use mathlib.Core.List.{List, _∷_, _++_}

@@ -1,9 +1,8 @@
--- The runs of words behind a series of rolls, one run for each batch of a plan, and what comes out. Over a width L. A batch's part
+-- The runs of words behind a series of rolls, one run for each batch of a plan. Over a width L. A batch's part
 -- of the rolls rs is the next of them, as many as it has bounds. Assumes nothing.
 --
 --   InRuns L plan rs words   one word for each batch, and each lies in the run behind its batch's part of the rolls
 --   Rolled L plan rs r       of the run r: each batch got its word, and the rolls are rs
---   DoneWith values outcome  not refused, and these are the values
 use mathlib.Core.Path.{_≡_}
 use mathlib.Core.List.{List, [], _∷_}
 use Prim.Native.Nat.{ℕ, _≤_}

@@ -1,21 +1,13 @@
--- The plans of the draws: the batches of a plan, joined, are the bounds that it was made of, and each can be rolled. Over every limit
--- and every choice of a shuffle's sizes; then at 64 bits. Assumes nothing.
+-- The batches of a shuffle, joined, are its bounds n, n - 1, .., 2, and each can be rolled. Over every choice of sizes; then at 64 bits.
+-- Assumes nothing.
 --
---   countdown-length, countdown-cons, countdown-at   m, m - 1, .., s of them
---   countup-length, countup-at                       i, i + 1, .., s of them
---   shuffle-bounds-length                            a shuffle of n records has n - 1 bounds
---   no-bounds, bounds-cons                           none for 0 or 1 record; else m, and those of m - 1 records
---   Bounded most bs                                  each bound is from 1 to most
---   GoodSize size most m                             with m records still to place the next batch leaves one or more and can be rolled
---   GoodSizes size most top                          so it is for every m from 2 up to top
---   size-some                                        a batch places a record or more
---   sizes-more                                       sizes that serve a limit serve a larger one
---   shuffle-plan                                     the batches of a shuffle are n, n - 1, .., 2
---   plan-end, plan-step                              its first batch, and the batches of the records that are left
---   product-countdown                                the product of m, m - 1, .., s of them, is from 1 to top^s
---   sizes64, shuffle-plan64                          at 64 bits, for up to 16,384 records; no product is above 2^56
---   cut-plan                                         the batches of a list of bounds are that list
---   sample-plan                                      and so those of a sample
+--   GoodSize size most m       with m records still to place the next batch leaves one or more and can be rolled
+--   GoodSizes size most top    so it is for every m from 2 up to top
+--   size-some                  a batch places a record or more
+--   sizes-more                 sizes that serve a limit serve a larger one
+--   shuffle-plan               the batches of a shuffle are n, n - 1, .., 2
+--   plan-end, plan-step        its first batch, and the batches of the records that are left
+--   sizes64, shuffle-plan64    at 64 bits, for up to 16,384 records; no product is above 2^56
 use mathlib.Core.Path.{_≡_, refl, sym, ap, _∙_}
 use mathlib.Core.Bool.{Bool, true, false}
 use mathlib.Core.List.{List, [], _∷_, _++_}
@@ -28,7 +20,7 @@ use borrow.Author.Tests.{leb-true, leb-false, le-leb, lt-leb}
 use Rattle.rules.specs.Width.{size64}
 use Rattle.rules.specs.Shuffle.{countdown, shuffleBounds, shufflePlanFrom, shufflePlan}
 use Rattle.rules.specs.Plan.{joined, Rollable, PlanOf}
-use Rattle.rules.proofs.Rows.{no-bounds, product-countdown, countdown-length, countdown-add}
+use Rattle.rules.proofs.Rows.{no-bounds, product-countdown, length-countdown, countdown-add}
 
 pub record GoodSize (size : ℕ → ℕ) (most m : ℕ) : Type 0 where
   pub less : size m < m
@@ -40,7 +32,7 @@ GoodSizes size most top = (m : ℕ) → 1 < m → m ≤ top → GoodSize size mo
 -- ---- the sizes of a shuffle's batches
 
 pub size-some : {size : ℕ → ℕ} {most m : ℕ} → GoodSize size most m → 0 < size m
-size-some s = rw countdown-length at (s .rollable .some)
+size-some s = rw length-countdown at (s .rollable .some)
 
 rollable-more : {most more : ℕ} {bs : List ℕ} → most ≤ more → Rollable most bs → Rollable more bs
 rollable-more l b = record { some = b .some; few = b .few; positive = b .positive; fits = le-trans (b .fits) l }
@@ -111,7 +103,7 @@ module _ {size : ℕ → ℕ} {most top : ℕ} (z : GoodSizes size most top) whe
 size-good : (m s top : ℕ) → size64 m ≡ s → 0 < s → s ≤ 6 → s < m → m ≤ top → top ^ s ≤ 2 ^ 56 → GoodSize size64 (2 ^ 56) m
 size-good m s top e p few l t f =
     let b = product-countdown s m top (omega arith) t in
-    let n = countdown-length s m in
+    let n = length-countdown s m in
     let r : Rollable (2 ^ 56) (countdown s m) =
     record { some = omega (arith, n); few = omega (arith, n); positive = b .0; fits = le-trans (b .1) f } in
     record { less = rw e l; rollable = rw e r }

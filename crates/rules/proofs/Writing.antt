@@ -1,12 +1,12 @@
 -- A lent list that is written from the front, and whose rest is as it was. Assumes nothing.
 --
 --   drop-next                                        a list from a place on, one at a time
---   stored-front                                     one store behind those written so far
+--   stored-front, stored-back                        one store behind those written so far
 --   drop-more                                        lists that are alike from a place on are alike from a later one on
 --   Written, written-none, written-turn,             the loop that writes values that are known beforehand
 --     written-done, written-whole
---   Unfolding, unfold-turn, unfold-done              the loop that writes a word's rolls
---   wrote-front, wrote-back, wrote-length, lent      a part that was lent on, and written at its front
+--   wrote-front, wrote-back, length-wrote, lent      a part that was lent on, and written at its front
+--   whole-list                                       values that fill the lent list leave nothing of it
 use mathlib.Core.Path.{_≡_, refl, sym, ap, ap₂, _∙_}
 use mathlib.Core.List.{List, [], _∷_, _++_, append-assoc, append-nil}
 use Prim.Native.Nat.{ℕ, _+_, _-_, _<_, _≤_}
@@ -64,20 +64,20 @@ module _ (out d : List ℕ) (at : ℕ) (h : at + length d ≤ length out) where
   abbrev wrote : List ℕ
   wrote = take at out ++ (d ++ drop (at + length d) out)
 
-  front-length : length (take at out ++ d) ≡ at + length d
-  front-length = rw (length-append, length-take-le at out (omega arith))
+  length-front-of : length (take at out ++ d) ≡ at + length d
+  length-front-of = rw (length-append, length-take-le at out (omega arith))
 
   again : wrote ≡ (take at out ++ d) ++ drop (at + length d) out
   again = rw append-assoc
 
   pub wrote-front : take (at + length d) wrote ≡ take at out ++ d
-  wrote-front = rw again (take-at (take at out ++ d) _ _ front-length)
+  wrote-front = rw again (take-at (take at out ++ d) _ _ length-front-of)
 
   pub wrote-back : drop (at + length d) wrote ≡ drop (at + length d) out
-  wrote-back = rw again (drop-at (take at out ++ d) _ _ front-length)
+  wrote-back = rw again (drop-at (take at out ++ d) _ _ length-front-of)
 
-  pub wrote-length : length wrote ≡ length out
-  wrote-length = rw again (rw (length-append, front-length, length-drop) (omega arith))
+  pub length-wrote : length wrote ≡ length out
+  length-wrote = rw again (rw (length-append, length-front-of, length-drop) (omega arith))
 
   pub lent : (last : List ℕ) → last ≡ d ++ drop (length d) (take (length out - at) (drop at out))
       → putMid at (length out - at) out last ≡ wrote

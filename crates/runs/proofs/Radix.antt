@@ -1,8 +1,5 @@
--- Rolls in range, and their value read from the first roll on; the run of words behind a value. Assumes nothing.
+-- The value of rolls, read from the first roll on; the run of words behind a value. Assumes nothing.
 --
---   range-count                                      rolls that are not as many as the bounds are not in range
---   range-reached, range-below, range-end            whether the rolls from a place on are in range
---   range-true, range-length                         what rolls in range are
 --   Reading, reading-none, reading-turn,             the loop that reads the value
 --     reading-done
 --   reading-fits                                     nothing on the way passes the value

@@ -35,16 +35,16 @@ use Rattle.draws.specs.Sample.{samplePlan, sampled, sample}
 use Rattle.sheet.specs.Sheet.{Numbers, numbers, entries, wordsOf, recordsOf, isSound}
 use Rattle.sheet.specs.Operations.{runSheet, drawnBy, shownDrawn}
 use Rattle.sheet.specs.declared.run.Drawn.{Drawn}
-use Rattle.sheet.proofs.Soundness.{sound-known, entries-length, sheet-records, sheet-room}
+use Rattle.sheet.proofs.Soundness.{sound-known, length-entries, sheet-records, sheet-room}
 
 -- ---- an area, read into the front of an array
 
 module _ (size : ℕ) (s : List ℕ) (c at : ℕ) (last rest : List ℕ) (e : last ≡ entries size c at s ++ rest) where
   area-back : take c last ≡ entries size c at s
-  area-back = ap (take c) e ∙ take-at (entries size c at s) rest c (entries-length size c at s)
+  area-back = ap (take c) e ∙ take-at (entries size c at s) rest c (length-entries size c at s)
 
   pub area-count : c ≡ length (take c last)
-  area-count = sym (ap length area-back ∙ entries-length size c at s)
+  area-count = sym (ap length area-back ∙ length-entries size c at s)
 
   pub area-of : (count from : ℕ) → c ≡ count → at ≡ from → take c last ≡ entries size count from s
   area-of count from f g = area-back ∙ ap₂ (λ (m n : ℕ). entries size m n s) f g
@@ -106,7 +106,7 @@ module _ (s : List ℕ) (room : ℕ) where
         → runSheet w64 s room ≡ sample w64 (wordsOf s) 0 (recordsOf s) (numbers s .k) room
     unfolding runSheet
     sheet-sample e =
-        let n : length (recordsOf s) ≡ numbers s .records = entries-length 4 (numbers s .records) (numbers s .recordsAt) s in
+        let n : length (recordsOf s) ≡ numbers s .records = length-entries 4 (numbers s .records) (numbers s .recordsAt) s in
         let o : Outcome = sampled w64 (wordsOf s) 0 (recordsOf s) (numbers s .k) in
         decide-past (no 1 (not (isSound s))) _ _ (ap not sound)
         ∙ decide-past (no 3 (wrongSize s)) _ _ e

@@ -1,7 +1,7 @@
 -- Numbers out of the bytes of a sheet, and those of an area. Assumes nothing.
 --
 --   four-read, number-eight   a number by its bytes, and by its halves
---   entries-at                the i-th number of an area
+--   getD-entries                the i-th number of an area
 use mathlib.Core.Path.{_≡_, refl, ap, _∙_}
 use mathlib.Core.List.{List}
 use Prim.Native.Nat.{ℕ, zero, suc, _+_, _*_, _<_, _≤_}
@@ -49,10 +49,10 @@ number-eight at s h = omega (arith, number-low 4 at s (omega arith), number-four
 
 -- ---- the entries of an area
 
-pub entries-at : (size count at : ℕ) (s : List ℕ) (i : ℕ) → i < count → getD (entries size count at s) i 0 ≡ number size (at + size * i) s
+pub getD-entries : (size count at : ℕ) (s : List ℕ) (i : ℕ) → i < count → getD (entries size count at s) i 0 ≡ number size (at + size * i) s
 unfolding entries
-entries-at size zero at s i h = absurd (not-suc-le-zero h)
-entries-at size (suc count) at s zero h = let e : at ≡ at + size * 0 = omega arith in ap (λ (k : ℕ). number size k s) e
-entries-at size (suc count) at s (suc i) h =
+getD-entries size zero at s i h = absurd (not-suc-le-zero h)
+getD-entries size (suc count) at s zero h = let e : at ≡ at + size * 0 = omega arith in ap (λ (k : ℕ). number size k s) e
+getD-entries size (suc count) at s (suc i) h =
     let e : at + size + size * i ≡ at + size * suc i = omega arith in
-    entries-at size count (at + size) s i (le-of-suc-le-suc h) ∙ ap (λ (k : ℕ). number size k s) e
+    getD-entries size count (at + size) s i (le-of-suc-le-suc h) ∙ ap (λ (k : ℕ). number size k s) e

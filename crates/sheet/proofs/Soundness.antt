@@ -4,7 +4,7 @@
 --   sound-false     the test fails a sheet that is not sound
 --   sound-iff       the test is the sentence of document 01, both ways
 --   sound-rest      where all else is as it should be, a sheet is sound if its areas share no byte
---   entries-length  an area has as many entries as its count
+--   length-entries  an area has as many entries as its count
 --   sheet-records   a sound sheet has at most 16,377 records
 --   sheet-refusal   a refusal of a sheet has one of the numbers 1, 3, 6 and 10
 --   four-only       none of these is 0, 2 or 9
@@ -92,13 +92,13 @@ module _ (s : List ℕ) where
 
 -- ---- what a sound sheet holds
 
-pub entries-length : (size c at : ℕ) (s : List ℕ) → length (entries size c at s) ≡ c
+pub length-entries : (size c at : ℕ) (s : List ℕ) → length (entries size c at s) ≡ c
 unfolding entries
-entries-length size zero at s = refl
-entries-length size (suc c) at s = ap suc (entries-length size c (at + size) s)
+length-entries size zero at s = refl
+length-entries size (suc c) at s = ap suc (length-entries size c (at + size) s)
 
 pub sheet-records : (s : List ℕ) → Sound s → length (recordsOf s) ≤ 16377
-sheet-records s v = rw (entries-length 4 (numbers s .records) (numbers s .recordsAt) s) (omega (arith, v .allowed .1, v .offsets .1, v .within .1))
+sheet-records s v = rw (length-entries 4 (numbers s .records) (numbers s .recordsAt) s) (omega (arith, v .allowed .1, v .offsets .1, v .within .1))
 
 -- ---- the numbers of a refusal
 

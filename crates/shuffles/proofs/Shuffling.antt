@@ -20,7 +20,7 @@ use Rattle.rules.specs.Width.{Width}
 use Rattle.arithmetic.specs.Products.{unwrap}
 use Rattle.arithmetic.proofs.Limits.{unwrap-some}
 use Rattle.rules.proofs.Widths.{GoodWidth}
-use Rattle.rules.proofs.Rolls.{rolls-length}
+use Rattle.rules.proofs.Rolls.{length-rolls}
 use Rattle.rules.specs.Run.{find, Run, runFrom, run, rollsOf, suffices}
 use Rattle.rolls.specs.Inner.{passes, searched}
 use Rattle.rolls.specs.declared.search.Search.the-variants.{Hit, Missing}
@@ -29,7 +29,7 @@ use Rattle.rules.proofs.Running.{rolledBy}
 use Rattle.rolls.proofs.Stepping.{hit-suffices, hit-rolled, hit-within, never-missing}
 use Rattle.rules.specs.Shuffle.{shuffleWith, countdown, shufflePlan}
 use Rattle.rules.proofs.ShufflePlans.{GoodSize, size-some, plan-end, plan-step}
-use Rattle.rules.proofs.Rows.{countdown-length}
+use Rattle.rules.proofs.Rows.{length-countdown}
 use Rattle.rules.proofs.Orders.{length-shuffle, shuffle-append}
 
 -- ---- one batch
@@ -54,7 +54,7 @@ module _ (W : Width) (g : GoodWidth W) (m s : ℕ) (h : 1 < m) (k : m ≤ maxRec
   pub batch-find : (b : ℕ) → b ≡ product (countdown s m) → (words : List ℕ) (at : ℕ)
       → find (passes (W .bits) (unwrap (W .bits) b)) words at ≡ find (accepted (W .bits) (countdown s m)) words at
   batch-find b f words at =
-      find-batch (W .bits) (countdown s m) (unwrap (W .bits) b) (rw countdown-length (batch-less .0))
+      find-batch (W .bits) (countdown s m) (unwrap (W .bits) b) (rw length-countdown (batch-less .0))
       (unwrap-some (W .bits) b (λ n. omega (arith, f, batch-fits .0)) ∙ f) words at
 
 -- ---- the records placed
@@ -91,7 +91,7 @@ module _ (W : Width) (g : GoodWidth W) (words : List ℕ) (start : ℕ) (xs₀ :
     shuffling-turn w place more q ys d =
         let rs : List ℕ = rolls (W .bits) (countdown s m) w in
         let on : Run = runFrom (W .bits) (planOf W (m - s)) words (place + 1) (v .3 .0 + 1) in
-        let len : length rs ≡ s = rolls-length (W .bits) (countdown s m) w ∙ countdown-length s m in (
+        let len : length rs ≡ s = length-rolls (W .bits) (countdown s m) w ∙ length-countdown s m in (
           omega (arith, hit-within (W .bits) (countdown s m) (planOf W (m - s)) words to (v .3 .0) _ found-by w place more q),
           omega (arith, v .1),
           ap length d ∙ length-shuffle m rs xs ∙ v .2,

@@ -10,7 +10,7 @@ use lib.ListN.{length}
 use lib.Seq.{drop-length}
 use Rattle.rules.proofs.Writing.{Written, written-none, written-turn, written-whole}
 use Rattle.rules.specs.Reservoir.{countup}
-use Rattle.rules.proofs.Rows.{countup-length, countup-at}
+use Rattle.rules.proofs.Rows.{length-countup, getD-countup}
 use Rattle.draws.proofs.sample.count_up.Statement.{statement}
 use Rattle.draws.proofs.sample.count_up.Tie as tie
 
@@ -42,7 +42,7 @@ loop-again : tie.Need-loop-again Inv-loop μ-loop
 loop-again c =
     let b = c .before in
     let m : b .loop .i < length (b .before .args .bounds .now) = search needs in
-    written-turn _ _ (countup-length _ _) _ _ _ (b .loop .inv) _ m (le-refl _) (sym (countup-at _ _ _ m))
+    written-turn _ _ (length-countup _ _) _ _ _ (b .loop .inv) _ m (le-refl _) (sym (getD-countup _ _ _ m))
 
 same-length : tie.Need-same-length Inv-loop μ-loop
 same-length c = search needs
@@ -50,7 +50,7 @@ same-length c = search needs
 returns : tie.Need-returns Inv-loop μ-loop
 returns c =
     let b = c .before in
-    written-whole _ _ (countup-length _ _) _ _ _ (b .loop .inv) (search needs)
+    written-whole _ _ (length-countup _ _) _ _ _ (b .loop .inv) (search needs)
     ∙ ap (λ (l : List ℕ). countup (length (b .before .args .bounds .now)) (b .before .args .from) ++ l) (drop-length (b .before .args .bounds .now))
     ∙ append-nil _
 

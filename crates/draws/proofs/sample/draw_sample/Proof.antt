@@ -11,7 +11,7 @@ use Rattle.answers.proofs.Deciding.{in-count, supplied-enough, refused-seen, do
 use Rattle.rules.specs.Reservoir.{reservoir}
 use Rattle.draws.proofs.Sampling.{bounds-no-zero}
 use Rattle.draws.proofs.OneSample.{sample-short, sample-done}
-use Rattle.rules.proofs.Reservoir.{sample-length}
+use Rattle.rules.proofs.Reservoir.{length-sample}
 use borrow.Author.Needs.{needs}
 use Rattle.draws.proofs.sample.draw_sample.Statement.{statement}
 use Rattle.draws.proofs.sample.draw_sample.Tie as tie
@@ -59,7 +59,7 @@ returns c = let n = c .before .before .before .before .before .before in
     (in-count 0 16384 (length (a .records .now)) (search needs) (s .pre .0 .1)) (in-count 1 (length (a .records .now)) (a .k) (s .pre .0 .2) (s .pre .0 .3))
     (le-ltb _ _ (s .pre .0 .4)) (s .pre .0 .0) (a .bounds .now) (s .pre .1) _ _ told) told (c .done-answer .ensures)
     (c .before .before .before .fill-slots .ensures
-    ∙ ap (λ (m : ℕ). reservoir (take (a .k) (a .records .now)) (drop (a .k) (a .records .now)) js ++ drop m (a .slots .now)) (sym (sample-length (a .records .now) js (a .k) (s .pre .0 .3))))
+    ∙ ap (λ (m : ℕ). reservoir (take (a .k) (a .records .now)) (drop (a .k) (a .records .now)) js ++ drop m (a .slots .now)) (sym (length-sample (a .records .now) js (a .k) (s .pre .0 .3))))
 
 returns-2 : tie.Need-returns-2
 returns-2 c = let b = c .before .before in

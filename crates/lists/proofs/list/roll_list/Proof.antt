@@ -9,7 +9,7 @@ use Prim.Native.Nat.{ℕ, _^_}
 use lib.ListN.{length, drop}
 use borrow.Author.Tests.{lt-ltb, le-ltb}
 use Rattle.answers.proofs.Deciding.{in-count, above-count, supplied-enough, refused-seen, done-seen}
-use Rattle.lists.proofs.Filling.{list-length}
+use Rattle.lists.proofs.Filling.{length-list}
 use Rattle.lists.proofs.OneList.{list-count, list-zero, list-room, list-start, list-short, list-done}
 use borrow.Author.Needs.{needs}
 use Rattle.lists.proofs.list.roll_list.Statement.{statement}
@@ -83,7 +83,7 @@ returns-5 c = let n = c .before .before .before .before .before .before in
     let a = e .before .before .before .before .before .before .before .before .args in
     let r = run 64 (cut (2 ^ 56) (a .bounds .now)) (a .words .now) (a .start) in
     let s = sym (n .before .before .supply-list .ensures) ∙ n .next .given .1 in
-    let len = list-length 64 (2 ^ 56) (a .bounds .now) (a .words .now) (a .start) (supplied-enough (a .start) r _ _ s .enough) in
+    let len = length-list 64 (2 ^ 56) (a .bounds .now) (a .words .now) (a .start) (supplied-enough (a .start) r _ _ s .enough) in
     done-seen _ _ (a .start) r _ _ (a .rolls .now) _ _
     (list-done w64 (a .words .now) (a .start) (a .bounds .now) (length (a .rolls .now)) (in-count 0 4096 (length (a .bounds .now)) (search needs) (search needs))
     (sym (e .before .before .before .has-zero .ensures) ∙ e .before .before .if2 .left) (le-ltb _ _ (e .before .if3 .left)) (e .if4 .left) _ _ s) s

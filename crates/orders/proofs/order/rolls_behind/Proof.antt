@@ -9,7 +9,7 @@ use borrow.Author.Needs.{needs}
 use Rattle.answers.proofs.Deciding.{refused-seen, none-seen}
 use Rattle.rules.specs.Reservoir.{countup}
 use Rattle.rules.specs.Order.{rollsInto}
-use Rattle.rules.proofs.Orders.{rolls-into-length}
+use Rattle.rules.proofs.Orders.{length-rolls-into}
 use Rattle.orders.proofs.Marking.{unmarked}
 use Rattle.orders.proofs.OneOrder.{order-count, order-room, order-not, order-done}
 use Rattle.orders.proofs.order.rolls_behind.Statement.{statement}
@@ -77,7 +77,7 @@ returns-4 c = let written = c .before in
     (order-done (a .order .now) (length (a .rolls .now)) (search needs) (search needs) (sym (k .ensures .0) ∙ not-false (k .result) (e .if3 .left)))
     (c .done-answer .ensures)
     (written .before .before .before .write-behind .ensures ∙ ap (λ (l : List ℕ). all ++ l) (written .before .before .before .before .before .before .before .before .write-countdown .ensures .1)
-    ∙ ap (λ (n : ℕ). all ++ drop n (a .rolls .now)) (sym (rolls-into-length _ _ _)))
+    ∙ ap (λ (n : ℕ). all ++ drop n (a .rolls .now)) (sym (length-rolls-into _ _ _)))
 
 pub rolls-behind-spec : {M : Type 1} → statement M
 rolls-behind-spec =

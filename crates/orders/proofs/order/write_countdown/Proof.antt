@@ -5,7 +5,7 @@ use Prim.Native.Nat.{_-_, _<_}
 use borrow.Author.Needs.{needs}
 use Rattle.rules.proofs.Writing.{Written, written-none, written-turn, written-done}
 use Rattle.rules.specs.Shuffle.{countdown}
-use Rattle.rules.proofs.Rows.{countdown-length, countdown-at}
+use Rattle.rules.proofs.Rows.{length-countdown, getD-countdown}
 use Rattle.orders.proofs.order.write_countdown.Statement.{statement}
 use Rattle.orders.proofs.order.write_countdown.Tie as tie
 
@@ -43,13 +43,13 @@ loop-again : tie.Need-loop-again Inv-loop μ-loop
 loop-again c =
     let b = c .before in
     let m : b .loop .i < b .before .args .n - 1 = search needs in
-    written-turn _ _ (countdown-length _ _) _ _ _ (b .loop .inv) _ m (search needs) (sym (countdown-at _ _ _ m))
+    written-turn _ _ (length-countdown _ _) _ _ _ (b .loop .inv) _ m (search needs) (sym (getD-countdown _ _ _ m))
 
 same-length : tie.Need-same-length Inv-loop μ-loop
 same-length c = search needs
 
 returns : tie.Need-returns Inv-loop μ-loop
-returns c = written-done _ _ (countdown-length _ _) _ _ _ (c .before .loop .inv) (search needs)
+returns c = written-done _ _ (length-countdown _ _) _ _ _ (c .before .loop .inv) (search needs)
 
 pub write-countdown-spec : {M : Type 1} → statement M
 write-countdown-spec =

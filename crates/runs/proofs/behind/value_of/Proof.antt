@@ -4,7 +4,7 @@ use Prim.Native.Nat.{_-_}
 use native.Mathlib.Omega.{arith}
 use borrow.Author.Needs.{needs}
 use lib.ListN.{length}
-use Rattle.rules.proofs.Range.{range-length}
+use Rattle.rules.proofs.Range.{length-in-range}
 use Rattle.runs.proofs.Radix.{Reading, reading-none, reading-turn, reading-fits, reading-done}
 use Rattle.runs.proofs.behind.value_of.Statement.{statement}
 use Rattle.runs.proofs.behind.value_of.Tie as tie
@@ -27,19 +27,19 @@ shared-slice-read-a c = search needs
 mul-a-2 : tie.Need-mul-a-2 Inv-loop μ-loop
 mul-a-2 c = let b = c .before .before in
     let s = b .before in
-    let n = range-length (s .args .bounds .now) (s .args .rolls .now) (s .pre .0) in
+    let n = length-in-range (s .args .bounds .now) (s .args .rolls .now) (s .pre .0) in
     record { fits = reading-fits _ _ _ _ (b .loop .inv) (search needs) (omega (arith, n)) (s .pre .0) (s .pre .1) .0 }
 
 mul-a-3 : tie.Need-mul-a-3 Inv-loop μ-loop
 mul-a-3 c = search needs
 
 shared-slice-read-a-2 : tie.Need-shared-slice-read-a-2 Inv-loop μ-loop
-shared-slice-read-a-2 c = let s = c .before .before .before .before in omega (arith, range-length (s .args .bounds .now) (s .args .rolls .now) (s .pre .0))
+shared-slice-read-a-2 c = let s = c .before .before .before .before in omega (arith, length-in-range (s .args .bounds .now) (s .args .rolls .now) (s .pre .0))
 
 add-a : tie.Need-add-a Inv-loop μ-loop
 add-a c = let b = c .before .before .before in
     let s = b .before in
-    let n = range-length (s .args .bounds .now) (s .args .rolls .now) (s .pre .0) in
+    let n = length-in-range (s .args .bounds .now) (s .args .rolls .now) (s .pre .0) in
     record { fits = reading-fits _ _ _ _ (b .loop .inv) (search needs) (omega (arith, n)) (s .pre .0) (s .pre .1) .1 }
 
 add-i : tie.Need-add-i Inv-loop μ-loop
@@ -51,7 +51,7 @@ loop-less c = search needs
 loop-again : tie.Need-loop-again Inv-loop μ-loop
 loop-again c = let b = c .before .before .before in
     let s = b .before in
-    let n = range-length (s .args .bounds .now) (s .args .rolls .now) (s .pre .0) in
+    let n = length-in-range (s .args .bounds .now) (s .args .rolls .now) (s .pre .0) in
     reading-turn _ _ _ _ (b .loop .inv) (search needs) (omega (arith, n))
 
 returns : tie.Need-returns Inv-loop μ-loop

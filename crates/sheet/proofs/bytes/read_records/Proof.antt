@@ -5,8 +5,8 @@ use Prim.Native.Nat.{_-_, _<_}
 use borrow.Author.Needs.{needs}
 use Rattle.rules.proofs.Writing.{Written, written-none, written-turn, written-whole}
 use Rattle.sheet.specs.Sheet.{entries}
-use Rattle.sheet.proofs.Soundness.{entries-length}
-use Rattle.sheet.proofs.Reading.{entries-at}
+use Rattle.sheet.proofs.Soundness.{length-entries}
+use Rattle.sheet.proofs.Reading.{getD-entries}
 use Rattle.sheet.proofs.bytes.read_records.Statement.{statement}
 use Rattle.sheet.proofs.bytes.read_records.Tie as tie
 
@@ -45,13 +45,13 @@ loop-again c =
     let b = c .before .before in
     let s = b .before .before .before in
     let m : b .loop .i < s .args .count = search needs in
-    written-turn _ _ (entries-length 4 _ _ _) _ _ _ (b .loop .inv) _ m (s .pre .1) (c .read-number .ensures ∙ sym (entries-at 4 _ _ _ _ m))
+    written-turn _ _ (length-entries 4 _ _ _) _ _ _ (b .loop .inv) _ m (s .pre .1) (c .read-number .ensures ∙ sym (getD-entries 4 _ _ _ _ m))
 
 same-length : tie.Need-same-length Inv-loop μ-loop
 same-length c = search needs
 
 returns : tie.Need-returns Inv-loop μ-loop
-returns c = written-whole _ _ (entries-length 4 _ _ _) _ _ _ (c .before .loop .inv) (search needs)
+returns c = written-whole _ _ (length-entries 4 _ _ _) _ _ _ (c .before .loop .inv) (search needs)
 
 pub read-records-spec : {M : Type 1} → statement M
 read-records-spec =
