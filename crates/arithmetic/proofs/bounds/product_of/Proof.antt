@@ -31,7 +31,7 @@ shared-slice-read-grow : tie.Need-shared-slice-read-grow Inv-loop μ-loop
 shared-slice-read-grow c = search needs
 
 grow-requires : tie.Need-grow-requires Inv-loop μ-loop
-grow-requires c κs = let b = c .before .before in zero-nowhere _ _ (b .before .before .pre) (search needs)
+grow-requires c κs = let turn = c .before .before in zero-nowhere _ _ (turn .before .before .pre) (search needs)
 
 add-i : tie.Need-add-i Inv-loop μ-loop
 add-i c = search needs
@@ -40,12 +40,12 @@ loop-less : tie.Need-loop-less Inv-loop μ-loop
 loop-less c = search needs
 
 loop-again : tie.Need-loop-again Inv-loop μ-loop
-loop-again c = let b = c .before .before .before in
-    let bs = b .before .before .args .bounds .now in (
+loop-again c = let turn = c .before .before .before in
+    let bs = turn .before .before .args .bounds .now in (
       search needs,
-      c .grow .ensures ∙ ap (λ (x : Product). grown x (getD bs (b .loop .i) 0)) (b .loop .inv .1)
-          ∙ grown-against (product (take (b .loop .i) bs)) (getD bs (b .loop .i) 0) (zero-nowhere bs (b .loop .i) (b .before .before .pre) (search needs))
-          ∙ ap against (sym (product-more bs (b .loop .i) (search needs))),
+      c .grow .ensures ∙ ap (λ (x : Product). grown x (getD bs (turn .loop .i) 0)) (turn .loop .inv .1)
+          ∙ grown-against (product (take (turn .loop .i) bs)) (getD bs (turn .loop .i) 0) (zero-nowhere bs (turn .loop .i) (turn .before .before .pre) (search needs))
+          ∙ ap against (sym (product-more bs (turn .loop .i) (search needs))),
     )
 
 returns : tie.Need-returns Inv-loop μ-loop

@@ -24,7 +24,7 @@ loop-holds : tie.Need-loop-holds Inv-loop μ-loop
 loop-holds c = written-none (countup (length (c .args .bounds .now)) (c .args .from)) _ _
 
 add-bounds : tie.Need-add-bounds Inv-loop μ-loop
-add-bounds c = let b = c .before in omega (arith, b .before .pre, b .loop .inv .0)
+add-bounds c = let turn = c .before in omega (arith, turn .before .pre, turn .loop .inv .0)
 
 mul-bounds : tie.Need-mul-bounds Inv-loop μ-loop
 mul-bounds c = search needs
@@ -40,18 +40,18 @@ loop-less c = search needs
 
 loop-again : tie.Need-loop-again Inv-loop μ-loop
 loop-again c =
-    let b = c .before in
-    let m : b .loop .i < length (b .before .args .bounds .now) = search needs in
-    written-turn _ _ (length-countup _ _) _ _ _ (b .loop .inv) _ m (le-refl _) (sym (getD-countup _ _ _ m))
+    let turn = c .before in
+    let m : turn .loop .i < length (turn .before .args .bounds .now) = search needs in
+    written-turn _ _ (length-countup _ _) _ _ _ (turn .loop .inv) _ m (le-refl _) (sym (getD-countup _ _ _ m))
 
 same-length : tie.Need-same-length Inv-loop μ-loop
 same-length c = search needs
 
 returns : tie.Need-returns Inv-loop μ-loop
 returns c =
-    let b = c .before in
-    written-whole _ _ (length-countup _ _) _ _ _ (b .loop .inv) (search needs)
-    ∙ ap (λ (l : List ℕ). countup (length (b .before .args .bounds .now)) (b .before .args .from) ++ l) (drop-length (b .before .args .bounds .now))
+    let turn = c .before in
+    written-whole _ _ (length-countup _ _) _ _ _ (turn .loop .inv) (search needs)
+    ∙ ap (λ (l : List ℕ). countup (length (turn .before .args .bounds .now)) (turn .before .args .from) ++ l) (drop-length (turn .before .args .bounds .now))
     ∙ append-nil _
 
 pub count-up-spec : {M : Type 1} → statement M

@@ -17,21 +17,21 @@ use Rattle.draws.proofs.sample.draw_sample.Statement.{statement}
 use Rattle.draws.proofs.sample.draw_sample.Tie as tie
 
 supply-list-requires : tie.Need-supply-list-requires
-supply-list-requires c κs = let s = c .before .before .before .before in
-    (s .pre .0 .0, bounds-no-zero (s .args .bounds .now) (length (s .args .records .now)) (s .args .k) (s .pre .1))
+supply-list-requires c κs = let start = c .before .before .before .before in
+    (start .pre .0 .0, bounds-no-zero (start .args .bounds .now) (length (start .args .records .now)) (start .args .k) (start .pre .1))
 
 enum-known-next : tie.Need-enum-known-next
 enum-known-next c = search needs
 
 fill-slots-requires : tie.Need-fill-slots-requires
-fill-slots-requires c κs = let n = c .before .before in
-    let s = n .before .before .before .before .before .before .before in
-    let a = s .args in (
-      (s .pre .0 .0, s .pre .0 .1, s .pre .0 .3, s .pre .0 .4),
+fill-slots-requires c κs = let after-next = c .before .before in
+    let start = after-next .before .before .before .before .before .before .before in
+    let args = start .args in (
+      (start .pre .0 .0, start .pre .0 .1, start .pre .0 .3, start .pre .0 .4),
       (
-        s .pre .1,
-        supplied-enough (a .start) (run 64 (cut (2 ^ 56) (a .bounds .now)) (a .words .now) (a .start)) _ _
-            (sym (n .before .before .supply-list .ensures) ∙ n .next .given .1) .enough,
+        start .pre .1,
+        supplied-enough (args .start) (run 64 (cut (2 ^ 56) (args .bounds .now)) (args .words .now) (args .start)) _ _
+            (sym (after-next .before .before .supply-list .ensures) ∙ after-next .next .given .1) .enough,
       ),
     )
 
@@ -48,27 +48,27 @@ same-length : tie.Need-same-length
 same-length c = search needs
 
 returns : tie.Need-returns
-returns c = let n = c .before .before .before .before .before .before in
-    let s = n .before .before .before .before .before .before .before in
-    let a = s .args in
-    let r = run 64 (cut (2 ^ 56) (a .bounds .now)) (a .words .now) (a .start) in
-    let js = rollsOf 64 (cut (2 ^ 56) (a .bounds .now)) (trace r) in
-    let told = sym (n .before .before .supply-list .ensures) ∙ n .next .given .1 in
-    done-seen _ _ (a .start) r _ _ (a .slots .now) _ _
-    (sample-done w64 (a .words .now) (a .start) (a .records .now) (a .k) (length (a .slots .now))
-    (in-count 0 16384 (length (a .records .now)) (search needs) (s .pre .0 .1)) (in-count 1 (length (a .records .now)) (a .k) (s .pre .0 .2) (s .pre .0 .3))
-    (le-ltb _ _ (s .pre .0 .4)) (s .pre .0 .0) (a .bounds .now) (s .pre .1) _ _ told) told (c .done-answer .ensures)
+returns c = let after-next = c .before .before .before .before .before .before in
+    let start = after-next .before .before .before .before .before .before .before in
+    let args = start .args in
+    let r = run 64 (cut (2 ^ 56) (args .bounds .now)) (args .words .now) (args .start) in
+    let js = rollsOf 64 (cut (2 ^ 56) (args .bounds .now)) (trace r) in
+    let told = sym (after-next .before .before .supply-list .ensures) ∙ after-next .next .given .1 in
+    done-seen _ _ (args .start) r _ _ (args .slots .now) _ _
+    (sample-done w64 (args .words .now) (args .start) (args .records .now) (args .k) (length (args .slots .now))
+    (in-count 0 16384 (length (args .records .now)) (search needs) (start .pre .0 .1)) (in-count 1 (length (args .records .now)) (args .k) (start .pre .0 .2) (start .pre .0 .3))
+    (le-ltb _ _ (start .pre .0 .4)) (start .pre .0 .0) (args .bounds .now) (start .pre .1) _ _ told) told (c .done-answer .ensures)
     (c .before .before .before .fill-slots .ensures
-    ∙ ap (λ (m : ℕ). reservoir (take (a .k) (a .records .now)) (drop (a .k) (a .records .now)) js ++ drop m (a .slots .now)) (sym (length-sample (a .records .now) js (a .k) (s .pre .0 .3))))
+    ∙ ap (λ (m : ℕ). reservoir (take (args .k) (args .records .now)) (drop (args .k) (args .records .now)) js ++ drop m (args .slots .now)) (sym (length-sample (args .records .now) js (args .k) (start .pre .0 .3))))
 
 returns-2 : tie.Need-returns-2
-returns-2 c = let b = c .before .before in
-    let s = b .before .before .before .before .before .before .before in
-    let a = s .args in
+returns-2 c = let after-batch = c .before .before in
+    let start = after-batch .before .before .before .before .before .before .before in
+    let args = start .args in
     refused-seen _ 10 _ _ _ _
-    (sample-short w64 (a .words .now) (a .start) (a .records .now) (a .k) (length (a .slots .now))
-    (in-count 0 16384 (length (a .records .now)) (search needs) (s .pre .0 .1)) (in-count 1 (length (a .records .now)) (a .k) (s .pre .0 .2) (s .pre .0 .3))
-    (le-ltb _ _ (s .pre .0 .4)) (s .pre .0 .0) (a .bounds .now) (s .pre .1) _ (sym (b .before .before .supply-list .ensures) ∙ b .batch .given .1))
+    (sample-short w64 (args .words .now) (args .start) (args .records .now) (args .k) (length (args .slots .now))
+    (in-count 0 16384 (length (args .records .now)) (search needs) (start .pre .0 .1)) (in-count 1 (length (args .records .now)) (args .k) (start .pre .0 .2) (start .pre .0 .3))
+    (le-ltb _ _ (start .pre .0 .4)) (start .pre .0 .0) (args .bounds .now) (start .pre .1) _ (sym (after-batch .before .before .supply-list .ensures) ∙ after-batch .batch .given .1))
     (c .refused-answer .ensures)
 
 pub draw-sample-spec : {M : Type 1} → statement M

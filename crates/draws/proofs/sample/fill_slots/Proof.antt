@@ -28,55 +28,55 @@ written w =
     prefix-back (replicate 16384 0) (w .write-list .last .1 .1 .1 .0) (length (s .args .bounds .now)) (fits s) (w .write-list .kept .1 .1 .1 .0)
 
 array-borrow-prefix-rolls : tie.Need-array-borrow-prefix-rolls
-array-borrow-prefix-rolls c = let s = c .before .before .before .before in few s
+array-borrow-prefix-rolls c = let start = c .before .before .before .before in few start
 
 slice-aggregate-write-list : tie.Need-slice-aggregate-write-list
-slice-aggregate-write-list c = let s = c .before .before .before .before .before in prefix-count (replicate 16384 0) (length (s .args .bounds .now)) (fits s)
+slice-aggregate-write-list c = let start = c .before .before .before .before .before in prefix-count (replicate 16384 0) (length (start .args .bounds .now)) (fits start)
 
 write-list-requires : tie.Need-write-list-requires
-write-list-requires c κs = let s = c .before .before .before .before .before in (
-  s .pre .0 .0,
-  bounds-no-zero (s .args .bounds .now) (length (s .args .records .now)) (s .args .k) (s .pre .1 .0),
-  rw (← prefix-count (replicate 16384 0) (length (s .args .bounds .now)) (fits s)) (le-refl (length (s .args .bounds .now))),
-  s .pre .1 .1,
+write-list-requires c κs = let start = c .before .before .before .before .before in (
+  start .pre .0 .0,
+  bounds-no-zero (start .args .bounds .now) (length (start .args .records .now)) (start .args .k) (start .pre .1 .0),
+  rw (← prefix-count (replicate 16384 0) (length (start .args .bounds .now)) (fits start)) (le-refl (length (start .args .bounds .now))),
+  start .pre .1 .1,
 )
 
 take-first-requires : tie.Need-take-first-requires
 take-first-requires c κs = search needs
 
 array-share-prefix-rolls : tie.Need-array-share-prefix-rolls
-array-share-prefix-rolls c = let w = c .before .before .before .before .before in
-    let s = w .before .before .before .before .before .before in
-    rw (array-kept (replicate 16384 0) (w .write-list .last .1 .1 .1 .0) (length (s .args .bounds .now)) (fits s) (w .write-list .kept .1 .1 .1 .0)) (fits s)
+array-share-prefix-rolls c = let after-write-list = c .before .before .before .before .before in
+    let start = after-write-list .before .before .before .before .before .before in
+    rw (array-kept (replicate 16384 0) (after-write-list .write-list .last .1 .1 .1 .0) (length (start .args .bounds .now)) (fits start) (after-write-list .write-list .kept .1 .1 .1 .0)) (fits start)
 
 slice-aggregate-take-later : tie.Need-slice-aggregate-take-later
-slice-aggregate-take-later c = let w = c .before .before .before .before .before .before in
-    let s = w .before .before .before .before .before .before in
-    rw (written w) (prefix-count (replicate 16384 0) (length (s .args .bounds .now)) (fits s) ∙ sym (w .write-list .kept .1 .1 .1 .0))
+slice-aggregate-take-later c = let after-write-list = c .before .before .before .before .before .before in
+    let start = after-write-list .before .before .before .before .before .before in
+    rw (written after-write-list) (prefix-count (replicate 16384 0) (length (start .args .bounds .now)) (fits start) ∙ sym (after-write-list .write-list .kept .1 .1 .1 .0))
 
 take-later-requires : tie.Need-take-later-requires
-take-later-requires c κs = let f = c .before .before .before .before in
-    let w = f .before .before .before in
-    let s = w .before .before .before .before .before .before in (
-      ap (λ (m : ℕ). s .args .k + m) (sym (slice-aggregate-take-later (c .before)))
-          ∙ bound-count (s .args .bounds .now) (length (s .args .records .now)) (s .args .k) (s .pre .0 .2) (s .pre .1 .0),
-      omega (arith, f .take-first .kept .1 .1 .0, s .pre .0 .3),
+take-later-requires c κs = let after-take-first = c .before .before .before .before in
+    let after-write-list = after-take-first .before .before .before in
+    let start = after-write-list .before .before .before .before .before .before in (
+      ap (λ (m : ℕ). start .args .k + m) (sym (slice-aggregate-take-later (c .before)))
+          ∙ bound-count (start .args .bounds .now) (length (start .args .records .now)) (start .args .k) (start .pre .0 .2) (start .pre .1 .0),
+      omega (arith, after-take-first .take-first .kept .1 .1 .0, start .pre .0 .3),
     )
 
 same-length : tie.Need-same-length
 same-length c = search needs
 
 returns : tie.Need-returns
-returns c = let f = c .before .before .before .before .before .before .before in
-    let w = f .before .before .before in
-    let s = w .before .before .before .before .before .before in
-    let a = s .args in
-    let r = run 64 (cut (2 ^ 56) (a .bounds .now)) (a .words .now) (a .start) in
-    slots-drawn (a .records .now) (a .slots .now) (f .take-first .last .1 .1 .0) (a .k) (rollsOf 64 (cut (2 ^ 56) (a .bounds .now)) (trace r)) _
-    (s .pre .0 .2) (f .take-first .ensures)
+returns c = let after-take-first = c .before .before .before .before .before .before .before in
+    let after-write-list = after-take-first .before .before .before in
+    let start = after-write-list .before .before .before .before .before .before in
+    let args = start .args in
+    let r = run 64 (cut (2 ^ 56) (args .bounds .now)) (args .words .now) (args .start) in
+    slots-drawn (args .records .now) (args .slots .now) (after-take-first .take-first .last .1 .1 .0) (args .k) (rollsOf 64 (cut (2 ^ 56) (args .bounds .now)) (trace r)) _
+    (start .pre .0 .2) (after-take-first .take-first .ensures)
     (c .before .before .take-later .ensures
-    ∙ ap (λ (js : List ℕ). reservoir (take (a .k) (f .take-first .last .1 .1 .0)) (drop (a .k) (a .records .now)) js ++ drop (a .k) (f .take-first .last .1 .1 .0))
-    (written w ∙ prefix-rolls (replicate 16384 0) (w .write-list .last .1 .1 .1 .0) (length (a .bounds .now)) (fits s) _ (w .write-list .ensures)))
+    ∙ ap (λ (js : List ℕ). reservoir (take (args .k) (after-take-first .take-first .last .1 .1 .0)) (drop (args .k) (args .records .now)) js ++ drop (args .k) (after-take-first .take-first .last .1 .1 .0))
+    (written after-write-list ∙ prefix-rolls (replicate 16384 0) (after-write-list .write-list .last .1 .1 .1 .0) (length (args .bounds .now)) (fits start) _ (after-write-list .write-list .ensures)))
 
 pub fill-slots-spec : {M : Type 1} → statement M
 fill-slots-spec =

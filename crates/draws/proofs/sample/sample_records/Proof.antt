@@ -33,49 +33,49 @@ refused-answer-requires : tie.Need-refused-answer-requires
 refused-answer-requires c κs = search needs
 
 returns : tie.Need-returns
-returns c = let a = c .before .before .before .before .before .args in
+returns c = let args = c .before .before .before .before .before .args in
     refused-seen _ 2 0 _ _ _
-    (sample-count w64 (a .words .now) (a .start) (a .records .now) (a .k) (length (a .slots .now)) (above-count 0 16384 (length (a .records .now)) (c .before .if1 .taken)))
+    (sample-count w64 (args .words .now) (args .start) (args .records .now) (args .k) (length (args .slots .now)) (above-count 0 16384 (length (args .records .now)) (c .before .if1 .taken)))
     (c .refused-answer .ensures)
 
 refused-answer-requires-2 : tie.Need-refused-answer-requires-2
 refused-answer-requires-2 c κs = search needs
 
 returns-2 : tie.Need-returns-2
-returns-2 c = let a = c .before .before .before .before .before .before .args in
+returns-2 c = let args = c .before .before .before .before .before .before .args in
     refused-seen _ 3 0 _ _ _
-    (sample-size w64 (a .words .now) (a .start) (a .records .now) (a .k) (length (a .slots .now)) (in-count 0 16384 (length (a .records .now)) (search needs) (c .before .before .if1 .left))
-    (below-count 1 (length (a .records .now)) (a .k) (c .before .if2 .taken)))
+    (sample-size w64 (args .words .now) (args .start) (args .records .now) (args .k) (length (args .slots .now)) (in-count 0 16384 (length (args .records .now)) (search needs) (c .before .before .if1 .left))
+    (below-count 1 (length (args .records .now)) (args .k) (c .before .if2 .taken)))
     (c .refused-answer2 .ensures)
 
 refused-answer-requires-3 : tie.Need-refused-answer-requires-3
 refused-answer-requires-3 c κs = search needs
 
 returns-3 : tie.Need-returns-3
-returns-3 c = let a = c .before .before .before .before .before .before .before .args in
+returns-3 c = let args = c .before .before .before .before .before .before .before .args in
     refused-seen _ 3 0 _ _ _
-    (sample-size w64 (a .words .now) (a .start) (a .records .now) (a .k) (length (a .slots .now)) (in-count 0 16384 (length (a .records .now)) (search needs) (c .before .before .before .if1 .left))
-    (above-count 1 (length (a .records .now)) (a .k) (c .before .if3 .taken)))
+    (sample-size w64 (args .words .now) (args .start) (args .records .now) (args .k) (length (args .slots .now)) (in-count 0 16384 (length (args .records .now)) (search needs) (c .before .before .before .if1 .left))
+    (above-count 1 (length (args .records .now)) (args .k) (c .before .if3 .taken)))
     (c .refused-answer3 .ensures)
 
 refused-answer-requires-4 : tie.Need-refused-answer-requires-4
 refused-answer-requires-4 c κs = search needs
 
 returns-4 : tie.Need-returns-4
-returns-4 c = let a = c .before .before .before .before .before .before .before .before .args in
+returns-4 c = let args = c .before .before .before .before .before .before .before .before .args in
     refused-seen _ 6 0 _ _ _
-    (sample-room w64 (a .words .now) (a .start) (a .records .now) (a .k) (length (a .slots .now)) (in-count 0 16384 (length (a .records .now)) (search needs) (search needs))
-    (in-count 1 (length (a .records .now)) (a .k) (search needs) (search needs)) (lt-ltb _ _ (c .before .if4 .taken)))
+    (sample-room w64 (args .words .now) (args .start) (args .records .now) (args .k) (length (args .slots .now)) (in-count 0 16384 (length (args .records .now)) (search needs) (search needs))
+    (in-count 1 (length (args .records .now)) (args .k) (search needs) (search needs)) (lt-ltb _ _ (c .before .if4 .taken)))
     (c .refused-answer4 .ensures)
 
 refused-answer-requires-5 : tie.Need-refused-answer-requires-5
 refused-answer-requires-5 c κs = search needs
 
 returns-5 : tie.Need-returns-5
-returns-5 c = let a = c .before .before .before .before .before .before .before .before .before .args in
+returns-5 c = let args = c .before .before .before .before .before .before .before .before .before .args in
     refused-seen _ 9 0 _ _ _
-    (sample-start w64 (a .words .now) (a .start) (a .records .now) (a .k) (length (a .slots .now)) (in-count 0 16384 (length (a .records .now)) (search needs) (search needs))
-    (in-count 1 (length (a .records .now)) (a .k) (search needs) (search needs)) (le-ltb _ _ (c .before .before .if4 .left)) (c .before .if5 .taken))
+    (sample-start w64 (args .words .now) (args .start) (args .records .now) (args .k) (length (args .slots .now)) (in-count 0 16384 (length (args .records .now)) (search needs) (search needs))
+    (in-count 1 (length (args .records .now)) (args .k) (search needs) (search needs)) (le-ltb _ _ (c .before .before .if4 .left)) (c .before .if5 .taken))
     (c .refused-answer5 .ensures)
 
 array-borrow-prefix-bounds : tie.Need-array-borrow-prefix-bounds
@@ -88,24 +88,24 @@ add-count-up : tie.Need-add-count-up
 add-count-up c = search needs
 
 count-up-requires : tie.Need-count-up-requires
-count-up-requires c κs = let e = c .before in
-    omega (arith, prefix-count (replicate 16384 0) (bound-total e) (fits e), fits e, e .before .before .before .before .if1 .left, length-replicate {A = ℕ} 16384 0)
+count-up-requires c κs = let past5 = c .before in
+    omega (arith, prefix-count (replicate 16384 0) (bound-total past5) (fits past5), fits past5, past5 .before .before .before .before .if1 .left, length-replicate {A = ℕ} 16384 0)
 
 array-share-prefix-bounds : tie.Need-array-share-prefix-bounds
-array-share-prefix-bounds c = let w = c .before in
-    let e = w .before .before in
-    rw (array-kept (replicate 16384 0) (w .count-up .last .0) (bound-total e) (fits e) (w .count-up .kept .0)) (fits e)
+array-share-prefix-bounds c = let after-count-up = c .before in
+    let past5 = after-count-up .before .before in
+    rw (array-kept (replicate 16384 0) (after-count-up .count-up .last .0) (bound-total past5) (fits past5) (after-count-up .count-up .kept .0)) (fits past5)
 
 slice-aggregate-draw-sample : tie.Need-slice-aggregate-draw-sample
-slice-aggregate-draw-sample c = let w = c .before .before in
-    let e = w .before .before in
-    rw (laid w) (prefix-count (replicate 16384 0) (bound-total e) (fits e) ∙ sym (w .count-up .kept .0))
+slice-aggregate-draw-sample c = let after-count-up = c .before .before in
+    let past5 = after-count-up .before .before in
+    rw (laid after-count-up) (prefix-count (replicate 16384 0) (bound-total past5) (fits past5) ∙ sym (after-count-up .count-up .kept .0))
 
 draw-sample-requires : tie.Need-draw-sample-requires
-draw-sample-requires c κs = let w = c .before .before .before in
-    let e = w .before .before in (
-      (e .if5 .left, e .before .before .before .before .if1 .left, e .before .before .before .if2 .left, e .before .before .if3 .left, e .before .if4 .left),
-      laid w ∙ w .count-up .ensures ∙ ap (λ (m : ℕ). countup m (e .before .before .before .before .before .before .before .before .args .k + 1)) (sym (prefix-count (replicate 16384 0) (bound-total e) (fits e))),
+draw-sample-requires c κs = let after-count-up = c .before .before .before in
+    let past5 = after-count-up .before .before in (
+      (past5 .if5 .left, past5 .before .before .before .before .if1 .left, past5 .before .before .before .if2 .left, past5 .before .before .if3 .left, past5 .before .if4 .left),
+      laid after-count-up ∙ after-count-up .count-up .ensures ∙ ap (λ (m : ℕ). countup m (past5 .before .before .before .before .before .before .before .before .args .k + 1)) (sym (prefix-count (replicate 16384 0) (bound-total past5) (fits past5))),
     )
 
 same-length : tie.Need-same-length

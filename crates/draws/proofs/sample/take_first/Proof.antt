@@ -38,16 +38,16 @@ loop-less c = search needs
 
 loop-again : tie.Need-loop-again Inv-loop μ-loop
 loop-again c =
-    let b = c .before .before in
-    let s = b .before in
-    let m : b .loop .i < s .args .k = search needs in
-    written-turn _ _ (length-take-le _ _ (s .pre .0)) _ _ _ (b .loop .inv) _ m (s .pre .1) (sym (getD-take (s .args .k) (s .args .records .now) _ 0 m))
+    let turn = c .before .before in
+    let start = turn .before in
+    let m : turn .loop .i < start .args .k = search needs in
+    written-turn _ _ (length-take-le _ _ (start .pre .0)) _ _ _ (turn .loop .inv) _ m (start .pre .1) (sym (getD-take (start .args .k) (start .args .records .now) _ 0 m))
 
 same-length : tie.Need-same-length Inv-loop μ-loop
 same-length c = search needs
 
 returns : tie.Need-returns Inv-loop μ-loop
-returns c = let b = c .before in written-whole _ _ (length-take-le _ _ (b .before .pre .0)) _ _ _ (b .loop .inv) (search needs)
+returns c = let turn = c .before in written-whole _ _ (length-take-le _ _ (turn .before .pre .0)) _ _ _ (turn .loop .inv) (search needs)
 
 pub take-first-spec : {M : Type 1} → statement M
 take-first-spec =

@@ -46,21 +46,21 @@ loop-less : tie.Need-loop-less Inv-loop μ-loop
 loop-less c = search needs
 
 loop-again : tie.Need-loop-again Inv-loop μ-loop
-loop-again c = let b = c .before .before .before in
-    let s = b .before in
-    let h : b .loop .i < length (s .args .rolls .now) = search needs in
+loop-again c = let turn = c .before .before .before in
+    let start = turn .before in
+    let h : turn .loop .i < length (start .args .rolls .now) = search needs in
     ⊎-elim
-    (λ w. rw (w .2) (later-taken (s .args .records .now) (s .args .k) (s .args .rolls .now) (s .args .slots .now) (b .loop .slots) (b .loop .i) (b .loop .inv) h (s .pre .0) (s .pre .1) (w .0 .taken)))
-    (λ w. rw (w .1) (later-passed (s .args .records .now) (s .args .k) (s .args .rolls .now) (s .args .slots .now) (b .loop .slots) (b .loop .i) (b .loop .inv) h (s .pre .0) (s .pre .1) (w .0 .left)))
+    (λ w. rw (w .2) (later-taken (start .args .records .now) (start .args .k) (start .args .rolls .now) (start .args .slots .now) (turn .loop .slots) (turn .loop .i) (turn .loop .inv) h (start .pre .0) (start .pre .1) (w .0 .taken)))
+    (λ w. rw (w .1) (later-passed (start .args .records .now) (start .args .k) (start .args .rolls .now) (start .args .slots .now) (turn .loop .slots) (turn .loop .i) (turn .loop .inv) h (start .pre .0) (start .pre .1) (w .0 .left)))
     (c .if1 .came)
 
 same-length : tie.Need-same-length Inv-loop μ-loop
 same-length c = search needs
 
 returns : tie.Need-returns Inv-loop μ-loop
-returns c = let b = c .before in
-    let s = b .before in
-    later-done (s .args .records .now) (s .args .k) (s .args .rolls .now) (s .args .slots .now) (b .loop .slots) (b .loop .i) (b .loop .inv) (search needs)
+returns c = let turn = c .before in
+    let start = turn .before in
+    later-done (start .args .records .now) (start .args .k) (start .args .rolls .now) (start .args .slots .now) (turn .loop .slots) (turn .loop .i) (turn .loop .inv) (search needs)
 
 pub take-later-spec : {M : Type 1} → statement M
 take-later-spec =

@@ -41,12 +41,12 @@ sub-if1 : tie.Need-sub-if1 Inv-loop μ-loop
 sub-if1 c = search needs
 
 within-requires : tie.Need-within-requires Inv-loop μ-loop
-within-requires c κs = let b = c .before .before .before in zero-nowhere _ _ (b .before .before .before .pre .1) (search needs)
+within-requires c κs = let turn = c .before .before .before in zero-nowhere _ _ (turn .before .before .before .pre .1) (search needs)
 
 mul-product-2 : tie.Need-mul-product-2 Inv-loop μ-loop
-mul-product-2 c = let b = c .before .before .before .before .before in
+mul-product-2 c = let turn = c .before .before .before .before .before in
     let f = sym (c .before .within .ensures) ∙ not-false (c .before .within .result) (c .if2 .left) in
-    record { fits = omega (arith, leb-true (b .loop .product * getD (b .before .before .before .args .bounds .now) (b .loop .end) 0) (2 ^ 56) f) }
+    record { fits = omega (arith, leb-true (turn .loop .product * getD (turn .before .before .before .args .bounds .now) (turn .loop .end) 0) (2 ^ 56) f) }
 
 add-end-2 : tie.Need-add-end-2 Inv-loop μ-loop
 add-end-2 c = search needs
@@ -55,9 +55,9 @@ loop-less : tie.Need-loop-less Inv-loop μ-loop
 loop-less c = search needs
 
 loop-again : tie.Need-loop-again Inv-loop μ-loop
-loop-again c = let b = c .before .before .before .before .before in
+loop-again c = let turn = c .before .before .before .before .before in
     let f = sym (c .before .within .ensures) ∙ not-false (c .before .within .result) (c .if2 .left) in
-    cut-turn _ _ _ _ _ (b .loop .inv) (search needs) (search needs) f
+    cut-turn _ _ _ _ _ (turn .loop .inv) (search needs) (search needs) f
 
 returns : tie.Need-returns Inv-loop μ-loop
 returns c = cut-found w64 _ _ _ _ (c .before .loop .inv) (cut-list-ends _ _ _ _ _ (c .before .loop .inv) (search needs))

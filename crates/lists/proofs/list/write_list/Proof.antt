@@ -19,7 +19,7 @@ abbrev μ-loop : tie.MeasureT-loop
 μ-loop words start bounds rolls₀ next₀ at₀ rolls next at = length bounds - at
 
 loop-holds : tie.Need-loop-holds Inv-loop μ-loop
-loop-holds c = let s = c .before .before .before in fill-none w64 _ _ _ _ (s .pre .0) (s .pre .3)
+loop-holds c = let start = c .before .before .before in fill-none w64 _ _ _ _ (start .pre .0) (start .pre .3)
 
 cut-at-requires : tie.Need-cut-at-requires Inv-loop μ-loop
 cut-at-requires c κs = search needs
@@ -34,19 +34,19 @@ mul-write-rolls : tie.Need-mul-write-rolls Inv-loop μ-loop
 mul-write-rolls c = search needs
 
 sub-write-rolls : tie.Need-sub-write-rolls Inv-loop μ-loop
-sub-write-rolls c = let k = c .before .before .before .before in
-    let b = k .before .before in
-    omega (arith, cut-place w64 _ (b .loop .at) (search needs) (b .before .before .before .before .pre .1) (k .cut-at .result) (k .cut-at .ensures))
+sub-write-rolls c = let after-cut-at = c .before .before .before .before in
+    let turn = after-cut-at .before .before in
+    omega (arith, cut-place w64 _ (turn .loop .at) (search needs) (turn .before .before .before .before .pre .1) (after-cut-at .cut-at .result) (after-cut-at .cut-at .ensures))
 
 part-write-rolls-start : tie.Need-part-write-rolls-start Inv-loop μ-loop
-part-write-rolls-start c = let k = c .before .before .before .before in
-    let b = k .before .before in
-    omega (arith, cut-place w64 _ (b .loop .at) (search needs) (b .before .before .before .before .pre .1) (k .cut-at .result) (k .cut-at .ensures))
+part-write-rolls-start c = let after-cut-at = c .before .before .before .before in
+    let turn = after-cut-at .before .before in
+    omega (arith, cut-place w64 _ (turn .loop .at) (search needs) (turn .before .before .before .before .pre .1) (after-cut-at .cut-at .result) (after-cut-at .cut-at .ensures))
 
 part-write-rolls-end : tie.Need-part-write-rolls-end Inv-loop μ-loop
-part-write-rolls-end c = let k = c .before .before .before .before in
-    let b = k .before .before in
-    omega (arith, cut-place w64 _ (b .loop .at) (search needs) (b .before .before .before .before .pre .1) (k .cut-at .result) (k .cut-at .ensures))
+part-write-rolls-end c = let after-cut-at = c .before .before .before .before in
+    let turn = after-cut-at .before .before in
+    omega (arith, cut-place w64 _ (turn .loop .at) (search needs) (turn .before .before .before .before .pre .1) (after-cut-at .cut-at .result) (after-cut-at .cut-at .ensures))
 
 mul-write-rolls-2 : tie.Need-mul-write-rolls-2 Inv-loop μ-loop
 mul-write-rolls-2 c = search needs
@@ -61,25 +61,25 @@ part-write-rolls-end-2 : tie.Need-part-write-rolls-end-2 Inv-loop μ-loop
 part-write-rolls-end-2 c = search needs
 
 write-rolls-requires : tie.Need-write-rolls-requires Inv-loop μ-loop
-write-rolls-requires c κs = let k = c .before .before .before .before .before .before in
-    let b = k .before .before in
-    let s = b .before .before .before .before in
-    simp (length-take, length-drop) (omega (arith, cut-place w64 _ (b .loop .at) (search needs) (s .pre .1) (k .cut-at .result) (k .cut-at .ensures), s .pre .2))
+write-rolls-requires c κs = let after-cut-at = c .before .before .before .before .before .before in
+    let turn = after-cut-at .before .before in
+    let start = turn .before .before .before .before in
+    simp (length-take, length-drop) (omega (arith, cut-place w64 _ (turn .loop .at) (search needs) (start .pre .1) (after-cut-at .cut-at .result) (after-cut-at .cut-at .ensures), start .pre .2))
 
 loop-again : tie.Need-loop-again Inv-loop μ-loop
-loop-again c = let k = c .before .before .before .before .before .before .before .before .before in
-    let b = k .before .before in
-    let s = b .before .before .before .before in
-    let w = c .before .before .before .before .before .before in
-    fill-turn w64 _ _ _ _ _ _ _ (b .loop .inv) (search needs) (s .pre .1) (k .cut-at .result) (k .cut-at .ensures) _ _ _ (sym (w .before .before .find-word .ensures) ∙ w .word .given .1) (s .pre .2) _ (c .before .before .write-rolls .ensures)
+loop-again c = let after-cut-at = c .before .before .before .before .before .before .before .before .before in
+    let turn = after-cut-at .before .before in
+    let start = turn .before .before .before .before in
+    let after-word = c .before .before .before .before .before .before in
+    fill-turn w64 _ _ _ _ _ _ _ (turn .loop .inv) (search needs) (start .pre .1) (after-cut-at .cut-at .result) (after-cut-at .cut-at .ensures) _ _ _ (sym (after-word .before .before .find-word .ensures) ∙ after-word .word .given .1) (start .pre .2) _ (c .before .before .write-rolls .ensures)
 
 add-next : tie.Need-add-next Inv-loop μ-loop
 add-next c = let v = loop-again c in omega (arith, v .0)
 
 loop-less : tie.Need-loop-less Inv-loop μ-loop
-loop-less c = let k = c .before .before .before .before .before .before .before .before .before in
-    let b = k .before .before in
-    omega (arith, cut-place w64 _ (b .loop .at) (search needs) (b .before .before .before .before .pre .1) (k .cut-at .result) (k .cut-at .ensures))
+loop-less c = let after-cut-at = c .before .before .before .before .before .before .before .before .before in
+    let turn = after-cut-at .before .before in
+    omega (arith, cut-place w64 _ (turn .loop .at) (search needs) (turn .before .before .before .before .pre .1) (after-cut-at .cut-at .result) (after-cut-at .cut-at .ensures))
 
 enum-told : tie.Need-enum-told Inv-loop μ-loop
 enum-told c = search needs
@@ -88,9 +88,9 @@ same-length : tie.Need-same-length Inv-loop μ-loop
 same-length c = search needs
 
 returns : tie.Need-returns Inv-loop μ-loop
-returns c = let k = c .before .before .before in
-    let b = k .before .before in
-    absurd (fill-never w64 _ _ _ _ _ _ _ (b .loop .inv) (search needs) (b .before .before .before .before .pre .1) (k .cut-at .result) (k .cut-at .ensures)
+returns c = let after-cut-at = c .before .before .before in
+    let turn = after-cut-at .before .before in
+    absurd (fill-never w64 _ _ _ _ _ _ _ (turn .loop .inv) (search needs) (turn .before .before .before .before .pre .1) (after-cut-at .cut-at .result) (after-cut-at .cut-at .ensures)
     (sym (c .before .before .find-word .ensures) ∙ c .enum-told .given .1))
 
 same-length-2 : tie.Need-same-length-2 Inv-loop μ-loop

@@ -33,15 +33,15 @@ enum-known-place c = search needs
 
 loop-again : tie.Need-loop-again Inv-loop μ-loop
 loop-again c =
-    let k = c .before .before .before .before in
-    let b = k .before .before in
-    let h : b .loop .at < length (b .before .before .before .args .bounds .now) = search needs in
-    let z = b .before .before .before .pre .1 in
-    let p = cut-place w64 _ (b .loop .at) h z (k .cut-at .result) (k .cut-at .ensures) in (
+    let after-cut-at = c .before .before .before .before in
+    let turn = after-cut-at .before .before in
+    let h : turn .loop .at < length (turn .before .before .before .args .bounds .now) = search needs in
+    let z = turn .before .before .before .pre .1 in
+    let p = cut-place w64 _ (turn .loop .at) h z (after-cut-at .cut-at .result) (after-cut-at .cut-at .ensures) in (
       p .1,
-      omega (arith, p .0, b .loop .inv .1),
-      supply-hit 64 _ _ _ _ _ _ _ (b .loop .inv .2) _ _ (cut-next w64 _ _ h z _ (k .cut-at .ensures)) _
-          (cut-find w64 _ _ h z _ (k .cut-at .ensures) _ _)
+      omega (arith, p .0, turn .loop .inv .1),
+      supply-hit 64 _ _ _ _ _ _ _ (turn .loop .inv .2) _ _ (cut-next w64 _ _ h z _ (after-cut-at .cut-at .ensures)) _
+          (cut-find w64 _ _ h z _ (after-cut-at .cut-at .ensures) _ _)
           _ _ _ (sym (c .before .before .before .find-word .ensures) ∙ c .before .place .given .1),
     )
 
@@ -55,28 +55,28 @@ add-batch : tie.Need-add-batch Inv-loop μ-loop
 add-batch c = search needs
 
 loop-less : tie.Need-loop-less Inv-loop μ-loop
-loop-less c = let k = c .before .before .before .before in
-    let b = k .before .before in
-    omega (arith, cut-place w64 _ (b .loop .at) (search needs) (b .before .before .before .pre .1) (k .cut-at .result) (k .cut-at .ensures))
+loop-less c = let after-cut-at = c .before .before .before .before in
+    let turn = after-cut-at .before .before in
+    omega (arith, cut-place w64 _ (turn .loop .at) (search needs) (turn .before .before .before .pre .1) (after-cut-at .cut-at .result) (after-cut-at .cut-at .ensures))
 
 enum-told : tie.Need-enum-told Inv-loop μ-loop
 enum-told c = search needs
 
 returns : tie.Need-returns Inv-loop μ-loop
 returns c =
-    let k = c .before .before .before in
-    let b = k .before .before in
-    let h : b .loop .at < length (b .before .before .before .args .bounds .now) = search needs in
-    let z = b .before .before .before .pre .1 in
-    supply-short 64 _ _ _ _ _ _ _ (b .loop .inv .2) _ _ (cut-next w64 _ _ h z _ (k .cut-at .ensures)) _
-    (cut-find w64 _ _ h z _ (k .cut-at .ensures) _ _)
+    let after-cut-at = c .before .before .before in
+    let turn = after-cut-at .before .before in
+    let h : turn .loop .at < length (turn .before .before .before .args .bounds .now) = search needs in
+    let z = turn .before .before .before .pre .1 in
+    supply-short 64 _ _ _ _ _ _ _ (turn .loop .inv .2) _ _ (cut-next w64 _ _ h z _ (after-cut-at .cut-at .ensures)) _
+    (cut-find w64 _ _ h z _ (after-cut-at .cut-at .ensures) _ _)
     (sym (c .before .before .find-word .ensures) ∙ c .enum-told .given .1)
 
 returns-2 : tie.Need-returns-2 Inv-loop μ-loop
 returns-2 c =
-    let b = c .before in
-    let h : length (b .before .before .before .args .bounds .now) ≤ b .loop .at = search needs in
-    supply-done 64 _ _ _ _ _ _ _ (b .loop .inv .2) (batch-none w64 _ _ h)
+    let turn = c .before in
+    let h : length (turn .before .before .before .args .bounds .now) ≤ turn .loop .at = search needs in
+    supply-done 64 _ _ _ _ _ _ _ (turn .loop .inv .2) (batch-none w64 _ _ h)
 
 pub supply-list-spec : {M : Type 1} → statement M
 supply-list-spec =

@@ -45,8 +45,8 @@ same-length-2 : tie.Need-same-length-2 Inv-loop μ-loop
 same-length-2 c = search needs
 
 returns-2 : tie.Need-returns-2 Inv-loop μ-loop
-returns-2 c = let b = c .before .before .before .before .before in
-    (sym (mark-twice (b .loop .inv .2) (search needs) (search needs)), λ e. absurd (false≢true e))
+returns-2 c = let turn = c .before .before .before .before .before in
+    (sym (mark-twice (turn .loop .inv .2) (search needs) (search needs)), λ e. absurd (false≢true e))
 
 mul-marks : tie.Need-mul-marks Inv-loop μ-loop
 mul-marks c = search needs
@@ -70,8 +70,8 @@ loop-less : tie.Need-loop-less Inv-loop μ-loop
 loop-less c = search needs
 
 loop-again : tie.Need-loop-again Inv-loop μ-loop
-loop-again c = let b = c .before .before .before .before .before .before in
-    (search needs, simp length-set (b .loop .inv .1), mark-turn (b .loop .inv .2) (search needs) (search needs) (search needs))
+loop-again c = let turn = c .before .before .before .before .before .before in
+    (search needs, simp length-set (turn .loop .inv .1), mark-turn (turn .loop .inv .2) (search needs) (search needs) (search needs))
 
 same-length-3 : tie.Need-same-length-3 Inv-loop μ-loop
 same-length-3 c = search needs

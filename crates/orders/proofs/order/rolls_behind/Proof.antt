@@ -19,8 +19,8 @@ refused-answer-requires : tie.Need-refused-answer-requires
 refused-answer-requires c κs = search needs
 
 returns : tie.Need-returns
-returns c = let a = c .before .before .before .before .args in
-    refused-seen _ 2 0 _ _ _ (order-count (a .order .now) (length (a .rolls .now)) (search needs)) (c .refused-answer .ensures)
+returns c = let args = c .before .before .before .before .args in
+    refused-seen _ 2 0 _ _ _ (order-count (args .order .now) (length (args .rolls .now)) (search needs)) (c .refused-answer .ensures)
 
 add-if2 : tie.Need-add-if2
 add-if2 c = search needs
@@ -29,8 +29,8 @@ refused-answer-requires-2 : tie.Need-refused-answer-requires-2
 refused-answer-requires-2 c κs = search needs
 
 returns-2 : tie.Need-returns-2
-returns-2 c = let a = c .before .before .before .before .before .args in
-    refused-seen _ 6 0 _ _ _ (order-room (a .order .now) (length (a .rolls .now)) (search needs) (search needs)) (c .refused-answer2 .ensures)
+returns-2 c = let args = c .before .before .before .before .before .args in
+    refused-seen _ 6 0 _ _ _ (order-room (args .order .now) (length (args .rolls .now)) (search needs) (search needs)) (c .refused-answer2 .ensures)
 
 slice-aggregate-mark-places : tie.Need-slice-aggregate-mark-places
 slice-aggregate-mark-places c = search needs
@@ -42,8 +42,8 @@ refused-answer-requires-3 : tie.Need-refused-answer-requires-3
 refused-answer-requires-3 c κs = search needs
 
 returns-3 : tie.Need-returns-3
-returns-3 c = let a = c .before .before .before .before .before .before .before .before .before .args in
-    refused-seen _ 8 0 _ _ _ (order-not (a .order .now) (length (a .rolls .now)) (search needs) (search needs)
+returns-3 c = let args = c .before .before .before .before .before .before .before .before .before .args in
+    refused-seen _ 8 0 _ _ _ (order-not (args .order .now) (length (args .rolls .now)) (search needs) (search needs)
     (sym (c .before .before .before .mark-places .ensures .0) ∙ not-true _ (c .before .if3 .taken))) (c .refused-answer3 .ensures)
 
 write-countdown-requires : tie.Need-write-countdown-requires
@@ -53,10 +53,10 @@ slice-aggregate-write-behind : tie.Need-slice-aggregate-write-behind
 slice-aggregate-write-behind c = search needs
 
 write-behind-requires : tie.Need-write-behind-requires
-write-behind-requires c κs = let e = c .before .before .before .before .before .before in
+write-behind-requires c κs = let past3 = c .before .before .before .before .before .before in
     let d = c .before .before .before .before .write-countdown in
-    let k = e .before .before .mark-places in
-    let t = not-false (k .result) (e .if3 .left) in (
+    let k = past3 .before .before .mark-places in
+    let t = not-false (k .result) (past3 .if3 .left) in (
       (search needs, k .kept .1 .0 ∙ length-replicate {A = ℕ} 16384 0, rw (d .kept .1 .0) (search needs), sym (k .ensures .0) ∙ t),
       (k .ensures .1 t, d .ensures .0),
     )
@@ -69,15 +69,15 @@ same-length c = search needs
 
 returns-4 : tie.Need-returns-4
 returns-4 c = let written = c .before in
-    let e = written .before .before .before .before .before .before .before .before .before .before in
-    let a = e .before .before .before .before .before .before .before .before .args in
-    let k = e .before .before .mark-places in
-    let all = rollsInto (length (a .order .now)) (countup (length (a .order .now)) 0) (a .order .now) in
-    none-seen _ _ (a .rolls .now) _ _
-    (order-done (a .order .now) (length (a .rolls .now)) (search needs) (search needs) (sym (k .ensures .0) ∙ not-false (k .result) (e .if3 .left)))
+    let past3 = written .before .before .before .before .before .before .before .before .before .before in
+    let args = past3 .before .before .before .before .before .before .before .before .args in
+    let k = past3 .before .before .mark-places in
+    let all = rollsInto (length (args .order .now)) (countup (length (args .order .now)) 0) (args .order .now) in
+    none-seen _ _ (args .rolls .now) _ _
+    (order-done (args .order .now) (length (args .rolls .now)) (search needs) (search needs) (sym (k .ensures .0) ∙ not-false (k .result) (past3 .if3 .left)))
     (c .done-answer .ensures)
     (written .before .before .before .write-behind .ensures ∙ ap (λ (l : List ℕ). all ++ l) (written .before .before .before .before .before .before .before .before .write-countdown .ensures .1)
-    ∙ ap (λ (n : ℕ). all ++ drop n (a .rolls .now)) (sym (length-rolls-into _ _ _)))
+    ∙ ap (λ (n : ℕ). all ++ drop n (args .rolls .now)) (sym (length-rolls-into _ _ _)))
 
 pub rolls-behind-spec : {M : Type 1} → statement M
 rolls-behind-spec =

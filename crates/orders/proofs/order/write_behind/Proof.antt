@@ -87,10 +87,10 @@ mul-rolls-2 : tie.Need-mul-rolls-2 Inv-loop μ-loop
 mul-rolls-2 c = search needs
 
 loop-again : tie.Need-loop-again Inv-loop μ-loop
-loop-again c = let b = c .before .before .before .before .before in
+loop-again c = let turn = c .before .before .before .before .before in
     let k = look (c .before .before .before .before) in (
-      simp length-set (b .loop .inv .0),
-      invert-turn (b .loop .inv .1) (search needs) _ _ refl refl (c .if1 .rolls)
+      simp length-set (turn .loop .inv .0),
+      invert-turn (turn .loop .inv .1) (search needs) _ _ refl refl (c .if1 .rolls)
           (⊎-elim (λ w. rw (w .1) (move-one _ _ _ _ _ (search needs) (omega arith) (search needs) (search needs)))
           (λ w. rw (w .1) (move-none _ _ _ _ _ (search needs)))
           (c .if1 .came)),

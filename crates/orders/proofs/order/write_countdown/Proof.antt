@@ -41,9 +41,9 @@ loop-less c = search needs
 
 loop-again : tie.Need-loop-again Inv-loop μ-loop
 loop-again c =
-    let b = c .before in
-    let m : b .loop .i < b .before .args .n - 1 = search needs in
-    written-turn _ _ (length-countdown _ _) _ _ _ (b .loop .inv) _ m (search needs) (sym (getD-countdown _ _ _ m))
+    let turn = c .before in
+    let m : turn .loop .i < turn .before .args .n - 1 = search needs in
+    written-turn _ _ (length-countdown _ _) _ _ _ (turn .loop .inv) _ m (search needs) (sym (getD-countdown _ _ _ m))
 
 same-length : tie.Need-same-length Inv-loop μ-loop
 same-length c = search needs

@@ -40,9 +40,9 @@ refused-batch-requires : tie.Need-refused-batch-requires
 refused-batch-requires c κs = search needs
 
 returns : tie.Need-returns
-returns c = let s = c .before .before .before .before in
-    let a = s .args in
-    c .refused-batch .ensures ∙ ap (shownBatch (a .start)) (sym (one-start w64 (a .words .now) (a .start) (bs s) (allowed s) (c .before .if1 .taken)))
+returns c = let start = c .before .before .before .before in
+    let args = start .args in
+    c .refused-batch .ensures ∙ ap (shownBatch (args .start)) (sym (one-start w64 (args .words .now) (args .start) (bs start) (allowed start) (c .before .if1 .taken)))
 
 find-word-requires : tie.Need-find-word-requires
 find-word-requires c κs = search needs
@@ -54,17 +54,17 @@ slice-aggregate-write-rolls : tie.Need-slice-aggregate-write-rolls
 slice-aggregate-write-rolls c = search needs
 
 write-rolls-requires : tie.Need-write-rolls-requires
-write-rolls-requires c κs = let s = c .before .before .before .before .before .before .before .before in few-bounds (bs s) (fit s)
+write-rolls-requires c κs = let start = c .before .before .before .before .before .before .before .before in few-bounds (bs start) (fit start)
 
 add-t16 : tie.Need-add-t16
 add-t16 c = let hit = c .before .before .before .before in
-    let s = hit .before .before .before .before .before .before in
-    let a = s .args in
-    let h : a .start ≤ length (a .words .now) = search needs in
+    let start = hit .before .before .before .before .before .before in
+    let args = start .args in
+    let h : args .start ≤ length (args .words .now) = search needs in
     omega (
       arith,
-      found-within w64 (a .words .now) (a .start) (bs s) (allowed s) h _ _ _
-          (sym (same s _ (hit .before .before .find-word .ensures)) ∙ hit .word .given .1),
+      found-within w64 (args .words .now) (args .start) (bs start) (allowed start) h _ _ _
+          (sym (same start _ (hit .before .before .find-word .ensures)) ∙ hit .word .given .1),
     )
 
 enum-told : tie.Need-enum-told
@@ -75,19 +75,19 @@ refused-batch-requires-2 c κs = search needs
 
 returns-2 : tie.Need-returns-2
 returns-2 c = let hit = c .before .before .before .before in
-    let s = hit .before .before .before .before .before .before in
-    let a = s .args in
-    let h : a .start ≤ length (a .words .now) = search needs in
-    one-found w64 (a .words .now) (a .start) (bs s) (allowed s) h _ _ _
-    (sym (same s _ (hit .before .before .find-word .ensures)) ∙ hit .word .given .1) _ (c .before .write-rolls .ensures)
+    let start = hit .before .before .before .before .before .before in
+    let args = start .args in
+    let h : args .start ≤ length (args .words .now) = search needs in
+    one-found w64 (args .words .now) (args .start) (bs start) (allowed start) h _ _ _
+    (sym (same start _ (hit .before .before .find-word .ensures)) ∙ hit .word .given .1) _ (c .before .write-rolls .ensures)
 
 returns-3 : tie.Need-returns-3
-returns-3 c = let s = c .before .before .before .before .before .before .before in
-    let a = s .args in
-    let h : a .start ≤ length (a .words .now) = search needs in
+returns-3 c = let start = c .before .before .before .before .before .before .before in
+    let args = start .args in
+    let h : args .start ≤ length (args .words .now) = search needs in
     c .refused-batch2 .ensures
-    ∙ ap (shownBatch (a .start)) (sym (one-not-found w64 (a .words .now) (a .start) (bs s) (allowed s) h
-    (sym (same s _ (c .before .before .before .find-word .ensures)) ∙ c .before .enum-told .given .1)))
+    ∙ ap (shownBatch (args .start)) (sym (one-not-found w64 (args .words .now) (args .start) (bs start) (allowed start) h
+    (sym (same start _ (c .before .before .before .find-word .ensures)) ∙ c .before .enum-told .given .1)))
 
 pub draw-batch-spec : {M : Type 1} → statement M
 draw-batch-spec =

@@ -33,22 +33,22 @@ enum-told-2 : tie.Need-enum-told-2
 enum-told-2 c = search needs
 
 returns-4 : tie.Need-returns-4
-returns-4 c = let p = c .before .before .before in
-    let bs = p .before .before .before .before .before .before .args .bounds .now in
-    checked-below bs (in-count 1 16 (length bs) (search needs) (search needs)) (sym (p .before .before .has-zero .ensures) ∙ p .before .if3 .left) _
-    (sym (p .product-of .ensures) ∙ c .before .b .given .1)
+returns-4 c = let after-product-of = c .before .before .before in
+    let bs = after-product-of .before .before .before .before .before .before .args .bounds .now in
+    checked-below bs (in-count 1 16 (length bs) (search needs) (search needs)) (sym (after-product-of .before .before .has-zero .ensures) ∙ after-product-of .before .if3 .left) _
+    (sym (after-product-of .product-of .ensures) ∙ c .before .b .given .1)
 
 returns-5 : tie.Need-returns-5
-returns-5 c = let p = c .before .before in
-    let bs = p .before .before .before .before .before .before .args .bounds .now in
-    checked-whole bs (in-count 1 16 (length bs) (search needs) (search needs)) (sym (p .before .before .has-zero .ensures) ∙ p .before .if3 .left)
-    (sym (p .product-of .ensures) ∙ c .enum-told .given .1)
+returns-5 c = let after-product-of = c .before .before in
+    let bs = after-product-of .before .before .before .before .before .before .args .bounds .now in
+    checked-whole bs (in-count 1 16 (length bs) (search needs) (search needs)) (sym (after-product-of .before .before .has-zero .ensures) ∙ after-product-of .before .if3 .left)
+    (sym (after-product-of .product-of .ensures) ∙ c .enum-told .given .1)
 
 returns-6 : tie.Need-returns-6
-returns-6 c = let p = c .before .before in
-    let bs = p .before .before .before .before .before .before .args .bounds .now in
-    checked-above bs (in-count 1 16 (length bs) (search needs) (search needs)) (sym (p .before .before .has-zero .ensures) ∙ p .before .if3 .left)
-    (sym (p .product-of .ensures) ∙ c .enum-told2 .given .1)
+returns-6 c = let after-product-of = c .before .before in
+    let bs = after-product-of .before .before .before .before .before .before .args .bounds .now in
+    checked-above bs (in-count 1 16 (length bs) (search needs) (search needs)) (sym (after-product-of .before .before .has-zero .ensures) ∙ after-product-of .before .if3 .left)
+    (sym (after-product-of .product-of .ensures) ∙ c .enum-told2 .given .1)
 
 pub check-bounds-spec : {M : Type 1} → statement M
 check-bounds-spec =

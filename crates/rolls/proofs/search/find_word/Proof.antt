@@ -48,29 +48,29 @@ loop-less c = search needs
 
 loop-again : tie.Need-loop-again Inv-loop μ-loop
 loop-again c = let turn = c .before .before .before .before in
-    let a = turn .before .before .before .args in
-    let here : turn .loop .at < length (a .words .now) = search needs in (
+    let args = turn .before .before .before .args in
+    let here : turn .loop .at < length (args .words .now) = search needs in (
       search needs,
       search needs,
       search needs,
       turn .loop .inv .3,
-      sym (find-miss (passes 64 (unwrap 64 (a .b))) (a .words .now) (turn .loop .at) here
-          (passes-tested 64 (a .b) _ _ _ _ (turn .loop .inv .3) (c .before .low .ensures) (lt-leb _ _ (c .if2 .left)))) ∙ turn .loop .inv .4,
+      sym (find-miss (passes 64 (unwrap 64 (args .b))) (args .words .now) (turn .loop .at) here
+          (passes-tested 64 (args .b) _ _ _ _ (turn .loop .inv .3) (c .before .low .ensures) (lt-leb _ _ (c .if2 .left)))) ∙ turn .loop .inv .4,
     )
 
 returns : tie.Need-returns Inv-loop μ-loop
 returns c = let turn = c .before in
-    let a = turn .before .before .before .args in
-    let none : length (a .words .now) ≤ turn .loop .at = search needs in
-    sym (ap (searched (a .start)) (sym (turn .loop .inv .4) ∙ find-end (passes 64 (unwrap 64 (a .b))) (a .words .now) (turn .loop .at) none))
+    let args = turn .before .before .before .args in
+    let none : length (args .words .now) ≤ turn .loop .at = search needs in
+    sym (ap (searched (args .start)) (sym (turn .loop .inv .4) ∙ find-end (passes 64 (unwrap 64 (args .b))) (args .words .now) (turn .loop .at) none))
 
 returns-2 : tie.Need-returns-2 Inv-loop μ-loop
 returns-2 c = let turn = c .before .before .before .before in
-    let a = turn .before .before .before .args in
-    let here : turn .loop .at < length (a .words .now) = search needs in
-    ap (λ (n : ℕ). Hit (getD (a .words .now) (turn .loop .at) 0) (turn .loop .at) n) (turn .loop .inv .2)
-    ∙ sym (ap (searched (a .start)) (sym (turn .loop .inv .4) ∙ find-hit (passes 64 (unwrap 64 (a .b))) (a .words .now) (turn .loop .at) here
-    (passes-tested 64 (a .b) _ _ _ _ (turn .loop .inv .3) (c .before .low .ensures) (le-leb _ _ (c .if2 .taken)))))
+    let args = turn .before .before .before .args in
+    let here : turn .loop .at < length (args .words .now) = search needs in
+    ap (λ (n : ℕ). Hit (getD (args .words .now) (turn .loop .at) 0) (turn .loop .at) n) (turn .loop .inv .2)
+    ∙ sym (ap (searched (args .start)) (sym (turn .loop .inv .4) ∙ find-hit (passes 64 (unwrap 64 (args .b))) (args .words .now) (turn .loop .at) here
+    (passes-tested 64 (args .b) _ _ _ _ (turn .loop .inv .3) (c .before .low .ensures) (le-leb _ _ (c .if2 .taken)))))
 
 pub find-word-spec : {M : Type 1} → statement M
 find-word-spec =

@@ -41,9 +41,9 @@ loop-less : tie.Need-loop-less Inv-loop μ-loop
 loop-less c = search needs
 
 loop-again : tie.Need-loop-again Inv-loop μ-loop
-loop-again c = let b = c .before .before .before .before in
-    let s = b .before .before .before in
-    unfold-turn _ _ _ _ _ _ _ (b .loop .inv) _ _ (search needs) (s .pre) (c .before .high .ensures) (c .low .ensures)
+loop-again c = let turn = c .before .before .before .before in
+    let start = turn .before .before .before in
+    unfold-turn _ _ _ _ _ _ _ (turn .loop .inv) _ _ (search needs) (start .pre) (c .before .high .ensures) (c .low .ensures)
 
 same-length : tie.Need-same-length Inv-loop μ-loop
 same-length c = search needs

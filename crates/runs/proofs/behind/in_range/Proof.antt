@@ -34,9 +34,9 @@ shared-slice-read-if2-2 : tie.Need-shared-slice-read-if2-2 Inv-loop μ-loop
 shared-slice-read-if2-2 c = search needs
 
 returns-2 : tie.Need-returns-2 Inv-loop μ-loop
-returns-2 c = let b = c .before .before .before .before in
-    let a = b .before .before .args in
-    sym (range-reached (a .bounds .now) (a .rolls .now) (b .loop .i) (b .loop .inv .1) (search needs) (c .if2 .taken)) ∙ b .loop .inv .2
+returns-2 c = let turn = c .before .before .before .before in
+    let args = turn .before .before .args in
+    sym (range-reached (args .bounds .now) (args .rolls .now) (turn .loop .i) (turn .loop .inv .1) (search needs) (c .if2 .taken)) ∙ turn .loop .inv .2
 
 add-i : tie.Need-add-i Inv-loop μ-loop
 add-i c = search needs
@@ -45,14 +45,14 @@ loop-less : tie.Need-loop-less Inv-loop μ-loop
 loop-less c = search needs
 
 loop-again : tie.Need-loop-again Inv-loop μ-loop
-loop-again c = let b = c .before .before .before .before in
-    let a = b .before .before .args in
-    (search needs, b .loop .inv .1, range-below (a .bounds .now) (a .rolls .now) (b .loop .i) (b .loop .inv .1) (search needs) (c .if2 .left) ∙ b .loop .inv .2)
+loop-again c = let turn = c .before .before .before .before in
+    let args = turn .before .before .args in
+    (search needs, turn .loop .inv .1, range-below (args .bounds .now) (args .rolls .now) (turn .loop .i) (turn .loop .inv .1) (search needs) (c .if2 .left) ∙ turn .loop .inv .2)
 
 returns-3 : tie.Need-returns-3 Inv-loop μ-loop
-returns-3 c = let b = c .before in
-    let a = b .before .before .args in
-    sym (range-end (a .bounds .now) (a .rolls .now) (b .loop .i) (b .loop .inv .1) (search needs)) ∙ b .loop .inv .2
+returns-3 c = let turn = c .before in
+    let args = turn .before .before .args in
+    sym (range-end (args .bounds .now) (args .rolls .now) (turn .loop .i) (turn .loop .inv .1) (search needs)) ∙ turn .loop .inv .2
 
 pub in-range-spec : {M : Type 1} → statement M
 in-range-spec =

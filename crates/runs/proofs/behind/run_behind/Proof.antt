@@ -46,15 +46,15 @@ div-t6 : tie.Need-div-t6
 div-t6 c = search needs
 
 add-t7 : tie.Need-add-t7
-add-t7 c = let t = c .before .before in
-    let r : c .wrapping-sub-u64 .result ≡ 2 ^ 64 - b t = omega arith in
-    record { fits = run-last _ _ _ (below t) (t .before .before .fits .b .fits) (least t) _ (c .before .divide-up .ensures) _ r }
+add-t7 c = let after-threshold-of = c .before .before in
+    let r : c .wrapping-sub-u64 .result ≡ 2 ^ 64 - b after-threshold-of = omega arith in
+    record { fits = run-last _ _ _ (below after-threshold-of) (after-threshold-of .before .before .fits .b .fits) (least after-threshold-of) _ (c .before .divide-up .ensures) _ r }
 
 returns-2 : tie.Need-returns-2
-returns-2 c = let t = c .before .before in
-    let r : c .wrapping-sub-u64 .result ≡ 2 ^ 64 - b t = omega arith in
-    run-found _ _ _ (below t) (t .before .before .fits .b .fits) (least t) _ (c .before .divide-up .ensures) _ r
-    ∙ ap (λ (n : ℕ). runBehind 64 n (a t)) (sym (same t))
+returns-2 c = let after-threshold-of = c .before .before in
+    let r : c .wrapping-sub-u64 .result ≡ 2 ^ 64 - b after-threshold-of = omega arith in
+    run-found _ _ _ (below after-threshold-of) (after-threshold-of .before .before .fits .b .fits) (least after-threshold-of) _ (c .before .divide-up .ensures) _ r
+    ∙ ap (λ (n : ℕ). runBehind 64 n (a after-threshold-of)) (sym (same after-threshold-of))
 
 pub run-behind-spec : {M : Type 1} → statement M
 run-behind-spec =

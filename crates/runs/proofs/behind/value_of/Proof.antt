@@ -25,22 +25,22 @@ shared-slice-read-a : tie.Need-shared-slice-read-a Inv-loop μ-loop
 shared-slice-read-a c = search needs
 
 mul-a-2 : tie.Need-mul-a-2 Inv-loop μ-loop
-mul-a-2 c = let b = c .before .before in
-    let s = b .before in
-    let n = length-in-range (s .args .bounds .now) (s .args .rolls .now) (s .pre .0) in
-    record { fits = reading-fits _ _ _ _ (b .loop .inv) (search needs) (omega (arith, n)) (s .pre .0) (s .pre .1) .0 }
+mul-a-2 c = let turn = c .before .before in
+    let start = turn .before in
+    let n = length-in-range (start .args .bounds .now) (start .args .rolls .now) (start .pre .0) in
+    record { fits = reading-fits _ _ _ _ (turn .loop .inv) (search needs) (omega (arith, n)) (start .pre .0) (start .pre .1) .0 }
 
 mul-a-3 : tie.Need-mul-a-3 Inv-loop μ-loop
 mul-a-3 c = search needs
 
 shared-slice-read-a-2 : tie.Need-shared-slice-read-a-2 Inv-loop μ-loop
-shared-slice-read-a-2 c = let s = c .before .before .before .before in omega (arith, length-in-range (s .args .bounds .now) (s .args .rolls .now) (s .pre .0))
+shared-slice-read-a-2 c = let start = c .before .before .before .before in omega (arith, length-in-range (start .args .bounds .now) (start .args .rolls .now) (start .pre .0))
 
 add-a : tie.Need-add-a Inv-loop μ-loop
-add-a c = let b = c .before .before .before in
-    let s = b .before in
-    let n = length-in-range (s .args .bounds .now) (s .args .rolls .now) (s .pre .0) in
-    record { fits = reading-fits _ _ _ _ (b .loop .inv) (search needs) (omega (arith, n)) (s .pre .0) (s .pre .1) .1 }
+add-a c = let turn = c .before .before .before in
+    let start = turn .before in
+    let n = length-in-range (start .args .bounds .now) (start .args .rolls .now) (start .pre .0) in
+    record { fits = reading-fits _ _ _ _ (turn .loop .inv) (search needs) (omega (arith, n)) (start .pre .0) (start .pre .1) .1 }
 
 add-i : tie.Need-add-i Inv-loop μ-loop
 add-i c = search needs
@@ -49,10 +49,10 @@ loop-less : tie.Need-loop-less Inv-loop μ-loop
 loop-less c = search needs
 
 loop-again : tie.Need-loop-again Inv-loop μ-loop
-loop-again c = let b = c .before .before .before in
-    let s = b .before in
-    let n = length-in-range (s .args .bounds .now) (s .args .rolls .now) (s .pre .0) in
-    reading-turn _ _ _ _ (b .loop .inv) (search needs) (omega (arith, n))
+loop-again c = let turn = c .before .before .before in
+    let start = turn .before in
+    let n = length-in-range (start .args .bounds .now) (start .args .rolls .now) (start .pre .0) in
+    reading-turn _ _ _ _ (turn .loop .inv) (search needs) (omega (arith, n))
 
 returns : tie.Need-returns Inv-loop μ-loop
 returns c = reading-done _ _ _ _ (c .before .loop .inv) (search needs)

@@ -39,18 +39,18 @@ refused-behind-requires : tie.Need-refused-behind-requires
 refused-behind-requires c κs = search needs
 
 returns : tie.Need-returns
-returns c = let t = c .before .before in
+returns c = let after-in-range = c .before .before in
     c .refused-behind .ensures
-    ∙ ap shownBehind (sym (behind-misfit w64 (bs t) (rs t) (held t .passes) (sym (t .in-range .ensures) ∙ not-true (t .in-range .result) (c .before .if1 .taken))))
+    ∙ ap shownBehind (sym (behind-misfit w64 (bs after-in-range) (rs after-in-range) (held after-in-range .passes) (sym (after-in-range .in-range .ensures) ∙ not-true (after-in-range .in-range .result) (c .before .if1 .taken))))
 
 value-of-requires : tie.Need-value-of-requires
-value-of-requires c κs = let t = c .before in
-    (sym (t .in-range .ensures) ∙ not-false (t .in-range .result) (c .if1 .left), fit-product (bs t) (held t .fit))
+value-of-requires c κs = let after-in-range = c .before in
+    (sym (after-in-range .in-range .ensures) ∙ not-false (after-in-range .in-range .result) (c .if1 .left), fit-product (bs after-in-range) (held after-in-range .fit))
 
 run-behind-requires : tie.Need-run-behind-requires
-run-behind-requires c κs = let t = c .before .before in
-    let r = range-true (bs t) (rs t) (sym (t .in-range .ensures) ∙ not-false (t .in-range .result) (c .before .if1 .left)) in
-    rw (c .value-of .ensures, unwrap-held (bs t) (held t .fit) _ (held t .wraps)) (value-below (bs t) (rs t) r)
+run-behind-requires c κs = let after-in-range = c .before .before in
+    let r = range-true (bs after-in-range) (rs after-in-range) (sym (after-in-range .in-range .ensures) ∙ not-false (after-in-range .in-range .result) (c .before .if1 .left)) in
+    rw (c .value-of .ensures, unwrap-held (bs after-in-range) (held after-in-range .fit) _ (held after-in-range .wraps)) (value-below (bs after-in-range) (rs after-in-range) r)
 
 enum-known-no : tie.Need-enum-known-no
 enum-known-no c = search needs
@@ -59,15 +59,15 @@ refused-behind-requires-2 : tie.Need-refused-behind-requires-2
 refused-behind-requires-2 c κs = search needs
 
 returns-2 : tie.Need-returns-2
-returns-2 c = let t = c .before .before .before in
-    c .run-behind .ensures ∙ ap₂ (runBehind 64) (unwrap-held (bs t) (held t .fit) _ (held t .wraps)) (c .before .value-of .ensures)
-    ∙ sym (behind-found w64 (bs t) (rs t) (held t .passes) (sym (t .in-range .ensures) ∙ not-false (t .in-range .result) (c .before .before .if1 .left)))
+returns-2 c = let after-in-range = c .before .before .before in
+    c .run-behind .ensures ∙ ap₂ (runBehind 64) (unwrap-held (bs after-in-range) (held after-in-range .fit) _ (held after-in-range .wraps)) (c .before .value-of .ensures)
+    ∙ sym (behind-found w64 (bs after-in-range) (rs after-in-range) (held after-in-range .passes) (sym (after-in-range .in-range .ensures) ∙ not-false (after-in-range .in-range .result) (c .before .before .if1 .left)))
 
 returns-3 : tie.Need-returns-3
 returns-3 c = let looked = c .before .before .before .before in
-    let a = looked .before .before .before .args in
-    let why = told-refused (a .bounds .now) _ (sym (looked .check-bounds .ensures) ∙ c .before .before .no .given .1) in
-    behind-refused w64 (a .bounds .now) (a .rolls .now) _ _ (why .refuses) _ (c .refused-behind2 .ensures)
+    let args = looked .before .before .before .args in
+    let why = told-refused (args .bounds .now) _ (sym (looked .check-bounds .ensures) ∙ c .before .before .no .given .1) in
+    behind-refused w64 (args .bounds .now) (args .rolls .now) _ _ (why .refuses) _ (c .refused-behind2 .ensures)
 
 pub words-behind-spec : {M : Type 1} → statement M
 words-behind-spec =

@@ -58,8 +58,8 @@ add-result-3 c = search needs
 
 returns : tie.Need-returns
 returns c =
-    let a = c .before .before .before .before .before .before .before .before .before in
-    four-read (a .args .at) (a .args .sheet .now) _ _ _ _ (a .pre) (c .before .before .before .before .before .before .wide .ensures .0)
+    let start = c .before .before .before .before .before .before .before .before .before in
+    four-read (start .args .at) (start .args .sheet .now) _ _ _ _ (start .pre) (c .before .before .before .before .before .before .wide .ensures .0)
     (c .before .before .before .before .wide2 .ensures .0) (c .before .before .wide3 .ensures .0) (c .wide4 .ensures .0)
 
 pub read-number-spec : {M : Type 1} → statement M

@@ -17,7 +17,7 @@ abbrev μ-loop : tie.MeasureT-loop
 μ-loop sheet at count records₀ i₀ records i = count - i
 
 loop-holds : tie.Need-loop-holds Inv-loop μ-loop
-loop-holds c = let s = c .before .before in written-none (entries 4 (s .args .count) (s .args .at) (s .args .sheet .now)) _ _
+loop-holds c = let start = c .before .before in written-none (entries 4 (start .args .count) (start .args .at) (start .args .sheet .now)) _ _
 
 mul-read-number : tie.Need-mul-read-number Inv-loop μ-loop
 mul-read-number c = search needs
@@ -42,10 +42,10 @@ loop-less c = search needs
 
 loop-again : tie.Need-loop-again Inv-loop μ-loop
 loop-again c =
-    let b = c .before .before in
-    let s = b .before .before .before in
-    let m : b .loop .i < s .args .count = search needs in
-    written-turn _ _ (length-entries 4 _ _ _) _ _ _ (b .loop .inv) _ m (s .pre .1) (c .read-number .ensures ∙ sym (getD-entries 4 _ _ _ _ m))
+    let turn = c .before .before in
+    let start = turn .before .before .before in
+    let m : turn .loop .i < start .args .count = search needs in
+    written-turn _ _ (length-entries 4 _ _ _) _ _ _ (turn .loop .inv) _ m (start .pre .1) (c .read-number .ensures ∙ sym (getD-entries 4 _ _ _ _ m))
 
 same-length : tie.Need-same-length Inv-loop μ-loop
 same-length c = search needs

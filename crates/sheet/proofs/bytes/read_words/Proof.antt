@@ -17,7 +17,7 @@ abbrev μ-loop : tie.MeasureT-loop
 μ-loop sheet at count words₀ i₀ words i = count - i
 
 loop-holds : tie.Need-loop-holds Inv-loop μ-loop
-loop-holds c = let s = c .before .before in written-none (entries 8 (s .args .count) (s .args .at) (s .args .sheet .now)) _ _
+loop-holds c = let start = c .before .before in written-none (entries 8 (start .args .count) (start .args .at) (start .args .sheet .now)) _ _
 
 mul-read-word : tie.Need-mul-read-word Inv-loop μ-loop
 mul-read-word c = search needs
@@ -42,10 +42,10 @@ loop-less c = search needs
 
 loop-again : tie.Need-loop-again Inv-loop μ-loop
 loop-again c =
-    let b = c .before .before in
-    let s = b .before .before .before in
-    let m : b .loop .i < s .args .count = search needs in
-    written-turn _ _ (length-entries 8 _ _ _) _ _ _ (b .loop .inv) _ m (s .pre .1) (c .read-word .ensures ∙ sym (getD-entries 8 _ _ _ _ m))
+    let turn = c .before .before in
+    let start = turn .before .before .before in
+    let m : turn .loop .i < start .args .count = search needs in
+    written-turn _ _ (length-entries 8 _ _ _) _ _ _ (turn .loop .inv) _ m (start .pre .1) (c .read-word .ensures ∙ sym (getD-entries 8 _ _ _ _ m))
 
 same-length : tie.Need-same-length Inv-loop μ-loop
 same-length c = search needs

@@ -72,10 +72,10 @@ share-byte-requires c κs = search needs
 
 returns-7 : tie.Need-returns-7
 returns-7 c =
-    let d = c .before .before .before .before .before in
-    let at = d .before .before .before .read-number .result in
-    let from = d .before .read-number3 .result in
-    sound-rest (sheet d) at (at + 8 * d .before .before .read-number2 .result) from (from + 4 * d .read-number4 .result) _ (c .share-byte .ensures)
+    let after-read-number4 = c .before .before .before .before .before in
+    let at = after-read-number4 .before .before .before .read-number .result in
+    let from = after-read-number4 .before .read-number3 .result in
+    sound-rest (sheet after-read-number4) at (at + 8 * after-read-number4 .before .before .read-number2 .result) from (from + 4 * after-read-number4 .read-number4 .result) _ (c .share-byte .ensures)
     (search needs) (search needs) (search needs) (search needs) (search needs)
 
 pub is-sound-spec : {M : Type 1} → statement M

@@ -50,9 +50,9 @@ refused-drawn-requires c κs = search needs
 
 returns : tie.Need-returns
 returns c =
-    let s = c .before .before .before .before .before in
-    refused-drawn (s .args .sheet .now) (outcome s) 1 0 _ _
-    (sheet-unsound (s .args .sheet .now) _ (sym (c .before .before .is-sound .ensures) ∙ not-true _ (c .before .if1 .taken))) (c .refused-drawn .ensures)
+    let start = c .before .before .before .before .before in
+    refused-drawn (start .args .sheet .now) (outcome start) 1 0 _ _
+    (sheet-unsound (start .args .sheet .now) _ (sym (c .before .before .is-sound .ensures) ∙ not-true _ (c .before .if1 .taken))) (c .refused-drawn .ensures)
 
 read-number-requires : tie.Need-read-number-requires
 read-number-requires c κs = let v = known c in search needs
@@ -68,30 +68,30 @@ refused-drawn-requires-2 c κs = search needs
 
 returns-2 : tie.Need-returns-2
 returns-2 c =
-    let e = c .before .before .before .before .before in
-    let s = begin e .args .sheet .now in
-    refused-drawn s (outcome (begin e)) 3 0 _ _
-    (sheet-size s _ (sound e) (no-slot s (omega arith))) (c .refused-drawn2 .ensures)
+    let past1 = c .before .before .before .before .before in
+    let s = begin past1 .args .sheet .now in
+    refused-drawn s (outcome (begin past1)) 3 0 _ _
+    (sheet-size s _ (sound past1) (no-slot s (omega arith))) (c .refused-drawn2 .ensures)
 
 refused-drawn-requires-3 : tie.Need-refused-drawn-requires-3
 refused-drawn-requires-3 c κs = search needs
 
 returns-3 : tie.Need-returns-3
 returns-3 c =
-    let e = c .before .before .before .before .before .before in
-    let s = begin e .args .sheet .now in
-    refused-drawn s (outcome (begin e)) 3 0 _ _
-    (sheet-size s _ (sound e) (too-many s (omega arith))) (c .refused-drawn3 .ensures)
+    let past1 = c .before .before .before .before .before .before in
+    let s = begin past1 .args .sheet .now in
+    refused-drawn s (outcome (begin past1)) 3 0 _ _
+    (sheet-size s _ (sound past1) (too-many s (omega arith))) (c .refused-drawn3 .ensures)
 
 refused-drawn-requires-4 : tie.Need-refused-drawn-requires-4
 refused-drawn-requires-4 c κs = search needs
 
 returns-4 : tie.Need-returns-4
 returns-4 c =
-    let e = c .before .before .before .before .before .before .before in
-    let s = begin e .args .sheet .now in
-    refused-drawn s (outcome (begin e)) 3 0 _ _
-    (sheet-size s _ (sound e) (too-early s (omega arith))) (c .refused-drawn4 .ensures)
+    let past1 = c .before .before .before .before .before .before .before in
+    let s = begin past1 .args .sheet .now in
+    refused-drawn s (outcome (begin past1)) 3 0 _ _
+    (sheet-size s _ (sound past1) (too-early s (omega arith))) (c .refused-drawn4 .ensures)
 
 sample-sheet-requires : tie.Need-sample-sheet-requires
 sample-sheet-requires c κs = known (c .before .before .before .before .before .before .before)
@@ -104,17 +104,17 @@ same-length c = search needs
 
 returns-5 : tie.Need-returns-5
 returns-5 c =
-    let e = c .before .before .before .before .before .before .before in
-    drawn-refused (begin (past e) .args .sheet .now) (outcome (begin (past e))) (begin (past e) .args .slots .now) _ _ _ _ (fits e)
+    let past4 = c .before .before .before .before .before .before .before in
+    drawn-refused (begin (past past4) .args .sheet .now) (outcome (begin (past past4))) (begin (past past4) .args .slots .now) _ _ _ _ (fits past4)
     (c .before .before .before .before .before .sample-sheet .ensures) (search needs) (c .refused-drawn5 .ensures)
 
 done-drawn-requires : tie.Need-done-drawn-requires
 done-drawn-requires c κs =
-    let e = c .before .before .before .before .before .before in
-    let s = begin (past e) in (
-      known (past e) .allowed .0,
+    let past4 = c .before .before .before .before .before .before in
+    let s = begin (past past4) in (
+      known (past past4) .allowed .0,
       search needs,
-      done-batch (outcome s) _ _ (never s) (fits e) (c .before .before .before .before .sample-sheet .ensures .0) (search needs),
+      done-batch (outcome s) _ _ (never s) (fits past4) (c .before .before .before .before .sample-sheet .ensures .0) (search needs),
     )
 
 same-length-2 : tie.Need-same-length-2
@@ -122,9 +122,9 @@ same-length-2 c = search needs
 
 returns-6 : tie.Need-returns-6
 returns-6 c =
-    let e = c .before .before .before .before .before .before .before in
-    let s = begin (past e) in
-    drawn-done (s .args .sheet .now) (outcome s) (s .args .slots .now) _ _ _ _ (never s) (fits e)
+    let past4 = c .before .before .before .before .before .before .before in
+    let s = begin (past past4) in
+    drawn-done (s .args .sheet .now) (outcome s) (s .args .slots .now) _ _ _ _ (never s) (fits past4)
     (c .before .before .before .before .before .sample-sheet .ensures) (search needs) (c .done-drawn .ensures)
 
 pub run-sheet-spec : {M : Type 1} → statement M

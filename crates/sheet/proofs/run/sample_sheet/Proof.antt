@@ -69,16 +69,16 @@ same-length c = search needs
 
 returns : tie.Need-returns
 returns c =
-    let q = c .before .before in
-    let r = q .before .before .before .before .before in
-    let w = r .before .before .before .before in
-    let g = w .before .before in
-    let a = g .before .before .before .before .before .before .args in
-    let s = a .sheet .now in
-    area-sampled s (length (a .slots .now)) (a .slots .now) _ _ _ _ _
-    (area-of 8 _ _ _ _ _ (w .read-words .ensures) (numbers s .words) (numbers s .wordsAt) (g .before .before .before .read-number .ensures) (g .read-number4 .ensures))
-    (area-of 4 _ _ _ _ _ (r .read-records .ensures) (numbers s .records) (numbers s .recordsAt) (g .before .before .read-number2 .ensures) (r .before .before .read-number5 .ensures))
-    (g .before .read-number3 .ensures) (q .sample-records .ensures .0, q .sample-records .ensures .1)
+    let after-sample-records = c .before .before in
+    let after-read-records = after-sample-records .before .before .before .before .before in
+    let after-read-words = after-read-records .before .before .before .before in
+    let after-read-number4 = after-read-words .before .before in
+    let args = after-read-number4 .before .before .before .before .before .before .args in
+    let s = args .sheet .now in
+    area-sampled s (length (args .slots .now)) (args .slots .now) _ _ _ _ _
+    (area-of 8 _ _ _ _ _ (after-read-words .read-words .ensures) (numbers s .words) (numbers s .wordsAt) (after-read-number4 .before .before .before .read-number .ensures) (after-read-number4 .read-number4 .ensures))
+    (area-of 4 _ _ _ _ _ (after-read-records .read-records .ensures) (numbers s .records) (numbers s .recordsAt) (after-read-number4 .before .before .read-number2 .ensures) (after-read-records .before .before .read-number5 .ensures))
+    (after-read-number4 .before .read-number3 .ensures) (after-sample-records .sample-records .ensures .0, after-sample-records .sample-records .ensures .1)
 
 pub sample-sheet-spec : {M : Type 1} → statement M
 sample-sheet-spec =

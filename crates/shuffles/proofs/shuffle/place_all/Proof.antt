@@ -21,15 +21,15 @@ few : (b : tie.At-loop Inv-loop μ-loop) → b .loop .m ≤ 16384
 few b = omega (arith, b .loop .inv .1, b .before .before .before .pre .1)
 
 loop-holds : tie.Need-loop-holds Inv-loop μ-loop
-loop-holds c = let s = c .before .before in shuffling-none w64 (s .args .words .now) (s .args .start) (s .args .records .now) (s .pre .0) (s .pre .2)
+loop-holds c = let start = c .before .before in shuffling-none w64 (start .args .words .now) (start .args .start) (start .args .records .now) (start .pre .0) (start .pre .2)
 
 batch-size-requires : tie.Need-batch-size-requires Inv-loop μ-loop
 batch-size-requires c κs = search needs
 
 product-down-requires : tie.Need-product-down-requires Inv-loop μ-loop
-product-down-requires c κs = let b = c .before .before in (
-  omega (arith, batch-less w64 good64 (b .loop .m) (c .batch-size .result) (c .before .loop-test .taken) (few b) (c .batch-size .ensures)),
-  batch-fits w64 good64 (b .loop .m) (c .batch-size .result) (c .before .loop-test .taken) (few b) (c .batch-size .ensures) .1,
+product-down-requires c κs = let turn = c .before .before in (
+  omega (arith, batch-less w64 good64 (turn .loop .m) (c .batch-size .result) (c .before .loop-test .taken) (few turn) (c .batch-size .ensures)),
+  batch-fits w64 good64 (turn .loop .m) (c .batch-size .result) (c .before .loop-test .taken) (few turn) (c .batch-size .ensures) .1,
 )
 
 find-word-requires : tie.Need-find-word-requires Inv-loop μ-loop
@@ -39,31 +39,31 @@ enum-known-word : tie.Need-enum-known-word Inv-loop μ-loop
 enum-known-word c = search needs
 
 place-batch-requires : tie.Need-place-batch-requires Inv-loop μ-loop
-place-batch-requires c κs = let z = c .before .before .before .before .before .before in
-    let b = z .before .before in
-    (omega (arith, batch-less w64 good64 (b .loop .m) (z .batch-size .result) (z .before .loop-test .taken) (few b) (z .batch-size .ensures)), omega (arith, b .loop .inv .1, b .loop .inv .2))
+place-batch-requires c κs = let after-batch-size = c .before .before .before .before .before .before in
+    let turn = after-batch-size .before .before in
+    (omega (arith, batch-less w64 good64 (turn .loop .m) (after-batch-size .batch-size .result) (after-batch-size .before .loop-test .taken) (few turn) (after-batch-size .batch-size .ensures)), omega (arith, turn .loop .inv .1, turn .loop .inv .2))
 
 loop-again : tie.Need-loop-again Inv-loop μ-loop
-loop-again c = let w = c .before .before .before .before .before in
-    let z = w .before .before .before .before in
-    let b = z .before .before in
-    let s = b .before .before .before in
-    shuffling-turn w64 good64 (s .args .words .now) (s .args .start) (s .args .records .now) (s .pre .1) _ _ _ (b .loop .inv) (z .before .loop-test .taken) _ (z .batch-size .ensures)
-    _ (w .before .before .before .product-down .ensures)
-    _ _ _ (sym (w .before .before .find-word .ensures) ∙ w .word .given .1) _ (c .before .before .place-batch .ensures)
+loop-again c = let after-word = c .before .before .before .before .before in
+    let after-batch-size = after-word .before .before .before .before in
+    let turn = after-batch-size .before .before in
+    let start = turn .before .before .before in
+    shuffling-turn w64 good64 (start .args .words .now) (start .args .start) (start .args .records .now) (start .pre .1) _ _ _ (turn .loop .inv) (after-batch-size .before .loop-test .taken) _ (after-batch-size .batch-size .ensures)
+    _ (after-word .before .before .before .product-down .ensures)
+    _ _ _ (sym (after-word .before .before .find-word .ensures) ∙ after-word .word .given .1) _ (c .before .before .place-batch .ensures)
 
 add-next : tie.Need-add-next Inv-loop μ-loop
 add-next c = let v = loop-again c in omega (arith, v .0)
 
 sub-m : tie.Need-sub-m Inv-loop μ-loop
-sub-m c = let z = c .before .before .before .before .before .before .before .before .before in
-    let b = z .before .before in
-    omega (arith, batch-less w64 good64 (b .loop .m) (z .batch-size .result) (z .before .loop-test .taken) (few b) (z .batch-size .ensures))
+sub-m c = let after-batch-size = c .before .before .before .before .before .before .before .before .before in
+    let turn = after-batch-size .before .before in
+    omega (arith, batch-less w64 good64 (turn .loop .m) (after-batch-size .batch-size .result) (after-batch-size .before .loop-test .taken) (few turn) (after-batch-size .batch-size .ensures))
 
 loop-less : tie.Need-loop-less Inv-loop μ-loop
-loop-less c = let z = c .before .before .before .before .before .before .before .before .before in
-    let b = z .before .before in
-    omega (arith, batch-less w64 good64 (b .loop .m) (z .batch-size .result) (z .before .loop-test .taken) (few b) (z .batch-size .ensures))
+loop-less c = let after-batch-size = c .before .before .before .before .before .before .before .before .before in
+    let turn = after-batch-size .before .before in
+    omega (arith, batch-less w64 good64 (turn .loop .m) (after-batch-size .batch-size .result) (after-batch-size .before .loop-test .taken) (few turn) (after-batch-size .batch-size .ensures))
 
 enum-told : tie.Need-enum-told Inv-loop μ-loop
 enum-told c = search needs
@@ -72,10 +72,10 @@ same-length : tie.Need-same-length Inv-loop μ-loop
 same-length c = search needs
 
 returns : tie.Need-returns Inv-loop μ-loop
-returns c = let z = c .before .before .before .before in
-    let b = z .before .before in
-    let s = b .before .before .before in
-    absurd (shuffling-never w64 good64 (s .args .words .now) (s .args .start) (s .args .records .now) (s .pre .1) _ _ _ (b .loop .inv) (z .before .loop-test .taken) _ (z .batch-size .ensures)
+returns c = let after-batch-size = c .before .before .before .before in
+    let turn = after-batch-size .before .before in
+    let start = turn .before .before .before in
+    absurd (shuffling-never w64 good64 (start .args .words .now) (start .args .start) (start .args .records .now) (start .pre .1) _ _ _ (turn .loop .inv) (after-batch-size .before .loop-test .taken) _ (after-batch-size .batch-size .ensures)
     _ (c .before .before .before .product-down .ensures)
     (sym (c .before .before .find-word .ensures) ∙ c .enum-told .given .1))
 
@@ -84,8 +84,8 @@ same-length-2 c = search needs
 
 returns-2 : tie.Need-returns-2 Inv-loop μ-loop
 returns-2 c =
-    let s = c .before .before .before .before in
-    shuffling-done w64 good64 (s .args .words .now) (s .args .start) (s .args .records .now) (s .pre .1) _ _ _ (c .before .loop .inv) (search needs)
+    let start = c .before .before .before .before in
+    shuffling-done w64 good64 (start .args .words .now) (start .args .start) (start .args .records .now) (start .pre .1) _ _ _ (c .before .loop .inv) (search needs)
 
 pub place-all-spec : {M : Type 1} → statement M
 place-all-spec =

@@ -14,7 +14,7 @@ abbrev μ-loop : tie.MeasureT-loop
 μ-loop records₀ m s word r₀ bound₀ left₀ records r bound left = left
 
 loop-holds : tie.Need-loop-holds Inv-loop μ-loop
-loop-holds c = let s = c .before in place-none _ _ _ _ _ (s .pre .0) (s .pre .1) (s .fits .word .fits)
+loop-holds c = let start = c .before in place-none _ _ _ _ _ (start .pre .0) (start .pre .1) (start .fits .word .fits)
 
 high-requires : tie.Need-high-requires Inv-loop μ-loop
 high-requires c κs = search needs
@@ -29,20 +29,20 @@ sub-left : tie.Need-sub-left Inv-loop μ-loop
 sub-left c = search needs
 
 exchange-records-requires : tie.Need-exchange-records-requires Inv-loop μ-loop
-exchange-records-requires c κs = let h = c .before .before in
-    let b = h .before .before in
-    let v = b .loop .inv in
-    let t = h .before .loop-test .taken in
-    let r = roll-below 64 (b .loop .bound) (b .loop .r) (omega (arith, t, v .0)) (v .3) in
-    (omega (arith, h .high .ensures, r, v .1, v .2), omega (arith, t, v .0, v .1, v .2))
+exchange-records-requires c κs = let after-high = c .before .before in
+    let turn = after-high .before .before in
+    let v = turn .loop .inv in
+    let t = after-high .before .loop-test .taken in
+    let r = roll-below 64 (turn .loop .bound) (turn .loop .r) (omega (arith, t, v .0)) (v .3) in
+    (omega (arith, after-high .high .ensures, r, v .1, v .2), omega (arith, t, v .0, v .1, v .2))
 
 loop-less : tie.Need-loop-less Inv-loop μ-loop
 loop-less c = omega (arith, c .before .before .before .before .before .before .loop-test .taken)
 
 loop-again : tie.Need-loop-again Inv-loop μ-loop
-loop-again c = let h = c .before .before .before .before .before in
+loop-again c = let after-high = c .before .before .before .before .before in
     rw (c .before .before .exchange-records .ensures)
-    (place-turn _ _ _ _ _ _ _ _ _ (h .before .before .loop .inv) _ _ (h .before .loop-test .taken) (h .high .ensures) (c .before .before .before .before .low .ensures))
+    (place-turn _ _ _ _ _ _ _ _ _ (after-high .before .before .loop .inv) _ _ (after-high .before .loop-test .taken) (after-high .high .ensures) (c .before .before .before .before .low .ensures))
 
 same-length : tie.Need-same-length Inv-loop μ-loop
 same-length c = search needs

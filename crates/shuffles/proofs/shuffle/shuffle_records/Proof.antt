@@ -16,15 +16,15 @@ refused-answer-requires : tie.Need-refused-answer-requires
 refused-answer-requires c κs = search needs
 
 returns : tie.Need-returns
-returns c = let a = c .before .before .before .before .args in
-    refused-seen _ 2 0 _ _ _ (shuffle-count w64 (a .words .now) (a .start) (a .records .now) (above-count 0 16384 (length (a .records .now)) (c .before .if1 .taken))) (c .refused-answer .ensures)
+returns c = let args = c .before .before .before .before .args in
+    refused-seen _ 2 0 _ _ _ (shuffle-count w64 (args .words .now) (args .start) (args .records .now) (above-count 0 16384 (length (args .records .now)) (c .before .if1 .taken))) (c .refused-answer .ensures)
 
 refused-answer-requires-2 : tie.Need-refused-answer-requires-2
 refused-answer-requires-2 c κs = search needs
 
 returns-2 : tie.Need-returns-2
-returns-2 c = let a = c .before .before .before .before .before .args in
-    refused-seen _ 9 0 _ _ _ (shuffle-start w64 (a .words .now) (a .start) (a .records .now) (in-count 0 16384 (length (a .records .now)) (search needs) (search needs)) (c .before .if2 .taken)) (c .refused-answer2 .ensures)
+returns-2 c = let args = c .before .before .before .before .before .args in
+    refused-seen _ 9 0 _ _ _ (shuffle-start w64 (args .words .now) (args .start) (args .records .now) (in-count 0 16384 (length (args .records .now)) (search needs) (search needs)) (c .before .if2 .taken)) (c .refused-answer2 .ensures)
 
 supply-shuffle-requires : tie.Need-supply-shuffle-requires
 supply-shuffle-requires c κs = search needs
@@ -33,11 +33,11 @@ enum-known-next : tie.Need-enum-known-next
 enum-known-next c = search needs
 
 place-all-requires : tie.Need-place-all-requires
-place-all-requires c κs = let e = c .before .before .before .before .before in
-    let a = e .before .before .before .before .args in (
-      e .if2 .left,
-      e .before .if1 .left,
-      supplied-enough (a .start) (run 64 (shufflePlan size64 (length (a .records .now))) (a .words .now) (a .start)) _ _
+place-all-requires c κs = let past2 = c .before .before .before .before .before in
+    let args = past2 .before .before .before .before .args in (
+      past2 .if2 .left,
+      past2 .before .if1 .left,
+      supplied-enough (args .start) (run 64 (shufflePlan size64 (length (args .records .now))) (args .words .now) (args .start)) _ _
           (sym (c .before .before .before .before .supply-shuffle .ensures) ∙ c .before .before .next .given .1) .enough,
     )
 
@@ -54,21 +54,21 @@ same-length : tie.Need-same-length
 same-length c = search needs
 
 returns-3 : tie.Need-returns-3
-returns-3 c = let n = c .before .before .before .before .before .before in
-    let e = n .before .before .before in
-    let a = e .before .before .before .before .args in
-    let s = sym (n .before .before .supply-shuffle .ensures) ∙ n .next .given .1 in
-    done-seen _ _ (a .start) (run 64 (shufflePlan size64 (length (a .records .now))) (a .words .now) (a .start)) _ _ (a .records .now) _ _
-    (shuffle-done w64 (a .words .now) (a .start) (a .records .now) (in-count 0 16384 (length (a .records .now)) (search needs) (search needs)) (e .if2 .left) _ _ s) s
+returns-3 c = let after-next = c .before .before .before .before .before .before in
+    let past2 = after-next .before .before .before in
+    let args = past2 .before .before .before .before .args in
+    let s = sym (after-next .before .before .supply-shuffle .ensures) ∙ after-next .next .given .1 in
+    done-seen _ _ (args .start) (run 64 (shufflePlan size64 (length (args .records .now))) (args .words .now) (args .start)) _ _ (args .records .now) _ _
+    (shuffle-done w64 (args .words .now) (args .start) (args .records .now) (in-count 0 16384 (length (args .records .now)) (search needs) (search needs)) (past2 .if2 .left) _ _ s) s
     (c .done-answer .ensures)
-    (c .before .before .before .place-all .ensures ∙ whole-list _ (a .records .now) (length-shuffle (length (a .records .now)) _ (a .records .now)))
+    (c .before .before .before .place-all .ensures ∙ whole-list _ (args .records .now) (length-shuffle (length (args .records .now)) _ (args .records .now)))
 
 returns-4 : tie.Need-returns-4
-returns-4 c = let b = c .before .before in
-    let e = b .before .before .before in
-    let a = e .before .before .before .before .args in
-    refused-seen _ 10 _ _ _ _ (shuffle-short w64 (a .words .now) (a .start) (a .records .now) (in-count 0 16384 (length (a .records .now)) (search needs) (search needs)) (e .if2 .left) _
-    (sym (b .before .before .supply-shuffle .ensures) ∙ b .batch .given .1)) (c .refused-answer3 .ensures)
+returns-4 c = let after-batch = c .before .before in
+    let past2 = after-batch .before .before .before in
+    let args = past2 .before .before .before .before .args in
+    refused-seen _ 10 _ _ _ _ (shuffle-short w64 (args .words .now) (args .start) (args .records .now) (in-count 0 16384 (length (args .records .now)) (search needs) (search needs)) (past2 .if2 .left) _
+    (sym (after-batch .before .before .supply-shuffle .ensures) ∙ after-batch .batch .given .1)) (c .refused-answer3 .ensures)
 
 pub shuffle-records-spec : {M : Type 1} → statement M
 shuffle-records-spec =

@@ -29,9 +29,9 @@ batch-size-requires : tie.Need-batch-size-requires Inv-loop μ-loop
 batch-size-requires c κs = search needs
 
 product-down-requires : tie.Need-product-down-requires Inv-loop μ-loop
-product-down-requires c κs = let b = c .before .before in (
-  omega (arith, batch-less w64 good64 (b .loop .m) (c .batch-size .result) (c .before .loop-test .taken) (few b) (c .batch-size .ensures)),
-  batch-fits w64 good64 (b .loop .m) (c .batch-size .result) (c .before .loop-test .taken) (few b) (c .batch-size .ensures) .1,
+product-down-requires c κs = let turn = c .before .before in (
+  omega (arith, batch-less w64 good64 (turn .loop .m) (c .batch-size .result) (c .before .loop-test .taken) (few turn) (c .batch-size .ensures)),
+  batch-fits w64 good64 (turn .loop .m) (c .batch-size .result) (c .before .loop-test .taken) (few turn) (c .batch-size .ensures) .1,
 )
 
 find-word-requires : tie.Need-find-word-requires Inv-loop μ-loop
@@ -42,13 +42,13 @@ enum-known-place c = search needs
 
 loop-again : tie.Need-loop-again Inv-loop μ-loop
 loop-again c =
-    let z = c .before .before .before .before .before in
-    let b = z .before .before in
-    let h = z .before .loop-test .taken in
-    let l = batch-less w64 good64 (b .loop .m) (z .batch-size .result) h (few b) (z .batch-size .ensures) in (
-      omega (arith, l, b .loop .inv .0),
-      supply-hit 64 _ _ _ _ _ _ _ (b .loop .inv .1) _ _ (batch-plan w64 good64 _ _ h (few b) (z .batch-size .ensures)) _
-          (batch-find w64 good64 _ _ h (few b) (z .batch-size .ensures) _ (c .before .before .before .before .product-down .ensures) _ _)
+    let after-batch-size = c .before .before .before .before .before in
+    let turn = after-batch-size .before .before in
+    let h = after-batch-size .before .loop-test .taken in
+    let l = batch-less w64 good64 (turn .loop .m) (after-batch-size .batch-size .result) h (few turn) (after-batch-size .batch-size .ensures) in (
+      omega (arith, l, turn .loop .inv .0),
+      supply-hit 64 _ _ _ _ _ _ _ (turn .loop .inv .1) _ _ (batch-plan w64 good64 _ _ h (few turn) (after-batch-size .batch-size .ensures)) _
+          (batch-find w64 good64 _ _ h (few turn) (after-batch-size .batch-size .ensures) _ (c .before .before .before .before .product-down .ensures) _ _)
           _ _ _ (sym (c .before .before .before .find-word .ensures) ∙ c .before .place .given .1),
     )
 
@@ -62,32 +62,32 @@ add-batch : tie.Need-add-batch Inv-loop μ-loop
 add-batch c = search needs
 
 sub-m : tie.Need-sub-m Inv-loop μ-loop
-sub-m c = let z = c .before .before .before .before .before in
-    let b = z .before .before in
-    omega (arith, batch-less w64 good64 (b .loop .m) (z .batch-size .result) (z .before .loop-test .taken) (few b) (z .batch-size .ensures))
+sub-m c = let after-batch-size = c .before .before .before .before .before in
+    let turn = after-batch-size .before .before in
+    omega (arith, batch-less w64 good64 (turn .loop .m) (after-batch-size .batch-size .result) (after-batch-size .before .loop-test .taken) (few turn) (after-batch-size .batch-size .ensures))
 
 loop-less : tie.Need-loop-less Inv-loop μ-loop
-loop-less c = let z = c .before .before .before .before .before in
-    let b = z .before .before in
-    omega (arith, batch-less w64 good64 (b .loop .m) (z .batch-size .result) (z .before .loop-test .taken) (few b) (z .batch-size .ensures))
+loop-less c = let after-batch-size = c .before .before .before .before .before in
+    let turn = after-batch-size .before .before in
+    omega (arith, batch-less w64 good64 (turn .loop .m) (after-batch-size .batch-size .result) (after-batch-size .before .loop-test .taken) (few turn) (after-batch-size .batch-size .ensures))
 
 enum-told : tie.Need-enum-told Inv-loop μ-loop
 enum-told c = search needs
 
 returns : tie.Need-returns Inv-loop μ-loop
 returns c =
-    let z = c .before .before .before .before in
-    let b = z .before .before in
-    let h = z .before .loop-test .taken in
-    supply-short 64 _ _ _ _ _ _ _ (b .loop .inv .1) _ _ (batch-plan w64 good64 _ _ h (few b) (z .batch-size .ensures)) _
-    (batch-find w64 good64 _ _ h (few b) (z .batch-size .ensures) _ (c .before .before .before .product-down .ensures) _ _)
+    let after-batch-size = c .before .before .before .before in
+    let turn = after-batch-size .before .before in
+    let h = after-batch-size .before .loop-test .taken in
+    supply-short 64 _ _ _ _ _ _ _ (turn .loop .inv .1) _ _ (batch-plan w64 good64 _ _ h (few turn) (after-batch-size .batch-size .ensures)) _
+    (batch-find w64 good64 _ _ h (few turn) (after-batch-size .batch-size .ensures) _ (c .before .before .before .product-down .ensures) _ _)
     (sym (c .before .before .find-word .ensures) ∙ c .enum-told .given .1)
 
 returns-2 : tie.Need-returns-2 Inv-loop μ-loop
 returns-2 c =
-    let b = c .before in
-    let h : b .loop .m ≤ 1 = search needs in
-    supply-done 64 _ _ _ _ _ _ _ (b .loop .inv .1) (plan-end (good64 .sizes) _ h)
+    let turn = c .before in
+    let h : turn .loop .m ≤ 1 = search needs in
+    supply-done 64 _ _ _ _ _ _ _ (turn .loop .inv .1) (plan-end (good64 .sizes) _ h)
 
 pub supply-shuffle-spec : {M : Type 1} → statement M
 supply-shuffle-spec =
