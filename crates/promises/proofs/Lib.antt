@@ -2,6 +2,8 @@ pub mod Calls
 pub mod Refusing
 pub mod FirstShort
 pub mod Method
+pub mod Firsts
+pub mod CouldComeUp
 pub mod Batch
 pub mod List
 pub mod Shuffle

@@ -26,8 +26,9 @@ use Rattle.answers.specs.declared.answer.Answer.{Answer}
 use Rattle.draws.specs.Sample.{samplePlan, sampleRefusals, sample, seenSample}
 use Rattle.promises.specs.Demand1.{Callable, firstOf}
 use Rattle.promises.specs.Demand2.{Allowed, ByMethod}
-use Rattle.promises.specs.Sample.{Op, Numbers, Demand1, Demand2, Bounds, Settled, StandIns, Promise}
+use Rattle.promises.specs.Sample.{Op, Numbers, Demand1, Demand2, Bounds, Settled, StandIns, CouldComeUp, Promise}
 use Rattle.promises.proofs.Calls.{below-nil, below-cons, one-number}
+use Rattle.promises.proofs.CouldComeUp.{comes-up}
 use Rattle.promises.proofs.Method.{by-method, same-seen}
 use Rattle.promises.proofs.Refusing.{beside-refused, allowed-cons, allowed-done, numbered-no, numbered-words, settle, ten-last}
 use Rattle.promises.proofs.Shuffle.{few-records}
@@ -124,6 +125,9 @@ stand-ins = record {
     one-one : Callable 64 (1 ∷ 1 ∷ [])
     one-one = below-cons 1 (1 ∷ []) (lit< tt) (one-number 1 (lit< tt))
 
+could-come-up : (W : Width) → GoodWidth W → CouldComeUp W (seenSample W)
+could-come-up W g n k i h p l b = comes-up W n k i h p l b (plan-fits W g n k h)
+
 pub promise : Promise w64
 promise = record {
   numbers = numbers w64;
@@ -132,4 +136,5 @@ promise = record {
   bounds = bounds w64 good64;
   settled = settled w64 good64;
   stand-ins = stand-ins;
+  could-come-up = could-come-up w64 good64;
 }

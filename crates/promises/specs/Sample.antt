@@ -1,17 +1,25 @@
 -- The sample: demands 1 and 2 of it, that they settle its answer and the lent list, its stand-ins, and that every record can come up.
 --
+-- The letter: "The regulator asked us three things about that draw. Could this junction's links have come up?" And of the program before
+-- this one: "When its word list ended early it kept the picks it had, so links late in the register could not come up."
+--
 --   Op                                            the operation as its caller observes it: words, start, records, k, the lent list of slots
 --   Numbers W                                     the numbers that it can meet, as document 01 lists them
 --   Refuses, Gives W words start xs k lent got    demands 1 and 2, of one call and what the caller got: the reservoir with the method's
 --                                                 rolls, in front of the rest of the lent list
 --   Demand1 W op, Demand2 W op                    the demands, on every call
 --   Bounds W                                      batch after batch the bounds are k + 1, .., n, and each batch can be rolled
---   Settled W, StandIns W, Promise W              as of one batch
+--   Settled W, StandIns W                         as of one batch
+--   Holds got j x                                 what a sample gave is not refused, and slot j holds the record x
+--   ComesUp W op n k i                            a list of words, one for each batch, with which a sample of k from n records takes the
+--                                                 record of place i, whatever the records are and whatever the lent list held
+--   CouldComeUp W op                              so it is of every place, for 1 to n of up to 16,384 records
+--   Promise W                                     the promise
 use mathlib.Core.Path.{_≡_}
 use mathlib.Core.Logic.{_≢_}
 use mathlib.Core.List.{List, [], _∷_, _++_}
-use Prim.Native.Nat.{ℕ, _+_, _-_, _≤_}
-use lib.ListN.{length, take, drop}
+use Prim.Native.Nat.{ℕ, _+_, _-_, _<_, _≤_}
+use lib.ListN.{length, take, drop, getD}
 use Rattle.rules.specs.Limits.{maxRecords}
 use Rattle.rules.specs.Plan.{PlanOf}
 use Rattle.rules.specs.Reservoir.{countup, reservoir}
@@ -68,6 +76,20 @@ pub record StandIns (W : Width) : Type 0 where
       → op words start xs k lent .0 .rejected ≡ made (length words) start xs k lent)
       → ¬ Demand2 W op
 
+abbrev pub Holds : Answer × List ℕ → ℕ → ℕ → Type 0
+Holds got j x = (got .0 .no ≡ 0) × (getD (got .1) j 0 ≡ x)
+
+pub record ComesUp (W : Width) (op : Op) (n k i : ℕ) : Type 0 where
+  pub words : List ℕ
+  pub slot : ℕ
+  pub one-each : length words ≡ length (samplePlan W n k)
+  pub callable : Callable (W .bits) words
+  pub within : slot < k
+  pub holds : (xs lent : List ℕ) → length xs ≡ n → k ≤ length lent → Holds (op words 0 xs k lent) slot (getD xs i 0)
+
+abbrev pub CouldComeUp : Width → Op → Type 0
+CouldComeUp W op = (n k i : ℕ) → n ≤ maxRecords → 1 ≤ k → k ≤ n → i < n → ComesUp W op n k i
+
 pub record Promise (W : Width) : Type 0 where
   pub numbers : Numbers W
   pub demand1 : Demand1 W (seenSample W)
@@ -75,3 +97,4 @@ pub record Promise (W : Width) : Type 0 where
   pub bounds : Bounds W
   pub settled : Settled W
   pub stand-ins : StandIns W
+  pub could-come-up : CouldComeUp W (seenSample W)
