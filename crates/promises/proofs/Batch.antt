@@ -23,7 +23,7 @@ use Rattle.rolls.specs.Batch.{batchRefusals, rollBatch, seenBatch}
 use Rattle.promises.specs.Demand1.{Callable, firstOf}
 use Rattle.promises.specs.Demand2.{Allowed}
 use Rattle.promises.specs.Batch.{Op, Numbers, Rolled, Demand1, Demand2, Settled, StandIns, Promise}
-use Rattle.promises.proofs.Calls.{below-cons, one-number}
+use Rattle.promises.proofs.Calls.{one-number, word-0, word-half, words-01, words-11}
 use Rattle.promises.proofs.Method.{by-method, rolled-count, same-outcome}
 use Rattle.promises.proofs.Refusing.{as-refused, allowed-cons, allowed-done, numbered-bounds, numbered-words, settle, ten-last}
 
@@ -80,28 +80,25 @@ agrees W op d words start bs w c a =
 stand-ins : StandIns w64
 unfolding firstOf hasZero product rest rolls find runFrom rollsOf next rejected decide rollBatch
 stand-ins = record {
-  refuses = λ op r d. r (0 ∷ []) 0 (1 ∷ []) zero one (d (0 ∷ []) 0 (1 ∷ []) zero one refl .none);
+  refuses = λ op r d. r (0 ∷ []) 0 (1 ∷ []) word-0 one (d (0 ∷ []) 0 (1 ∷ []) word-0 one refl .none);
   -- bound 2: word 0 gives 0, and word 2^63 gives 1
   fixed = λ op made f d.
-      let low = agrees w64 op d (0 ∷ []) 0 (2 ∷ []) zero two refl in
-      let high = agrees w64 op d (2 ^ 63 ∷ []) 0 (2 ∷ []) half two refl in
-      let same = f (0 ∷ []) 0 (2 ∷ []) (d (0 ∷ []) 0 (2 ∷ []) zero two refl .none)
-      ∙ sym (f (2 ^ 63 ∷ []) 0 (2 ∷ []) (d (2 ^ 63 ∷ []) 0 (2 ∷ []) half two refl .none)) in
+      let low = agrees w64 op d (0 ∷ []) 0 (2 ∷ []) word-0 two refl in
+      let high = agrees w64 op d (2 ^ 63 ∷ []) 0 (2 ∷ []) word-half two refl in
+      let same = f (0 ∷ []) 0 (2 ∷ []) (d (0 ∷ []) 0 (2 ∷ []) word-0 two refl .none)
+      ∙ sym (f (2 ^ 63 ∷ []) 0 (2 ∷ []) (d (2 ^ 63 ∷ []) 0 (2 ∷ []) word-half two refl .none)) in
       let z : _≡_ {A = ℕ} 0 1 = ap (λ (l : List ℕ). getD l 0 0) (sym (ap (λ (x : Batch). x .rolls) low) ∙ same ∙ ap (λ (x : Batch). x .rolls) high) in
       omega arith;
   -- bound 6: of the words 0, 1 one is rejected, of the words 1, 1 none
   invented = λ op made f d.
-      let some = agrees w64 op d (0 ∷ 1 ∷ []) 0 (6 ∷ []) zero-one six refl in
-      let none = agrees w64 op d (1 ∷ 1 ∷ []) 0 (6 ∷ []) one-one six refl in
-      let same = f (0 ∷ 1 ∷ []) 0 (6 ∷ []) (d (0 ∷ 1 ∷ []) 0 (6 ∷ []) zero-one six refl .none)
-      ∙ sym (f (1 ∷ 1 ∷ []) 0 (6 ∷ []) (d (1 ∷ 1 ∷ []) 0 (6 ∷ []) one-one six refl .none)) in
+      let some = agrees w64 op d (0 ∷ 1 ∷ []) 0 (6 ∷ []) words-01 six refl in
+      let none = agrees w64 op d (1 ∷ 1 ∷ []) 0 (6 ∷ []) words-11 six refl in
+      let same = f (0 ∷ 1 ∷ []) 0 (6 ∷ []) (d (0 ∷ 1 ∷ []) 0 (6 ∷ []) words-01 six refl .none)
+      ∙ sym (f (1 ∷ 1 ∷ []) 0 (6 ∷ []) (d (1 ∷ 1 ∷ []) 0 (6 ∷ []) words-11 six refl .none)) in
       let z : _≡_ {A = ℕ} 1 0 = sym (ap (λ (x : Batch). x .rejected) some) ∙ same ∙ ap (λ (x : Batch). x .rejected) none in
       omega arith;
 }
   where
-    zero : Callable 64 (0 ∷ [])
-    zero = one-number 0 (lit< tt)
-
     one : Callable 64 (1 ∷ [])
     one = one-number 1 (lit< tt)
 
@@ -110,15 +107,6 @@ stand-ins = record {
 
     six : Callable 64 (6 ∷ [])
     six = one-number 6 (lit< tt)
-
-    half : Callable 64 (2 ^ 63 ∷ [])
-    half = one-number (2 ^ 63) (lit< tt)
-
-    zero-one : Callable 64 (0 ∷ 1 ∷ [])
-    zero-one = below-cons 0 (1 ∷ []) (lit< tt) one
-
-    one-one : Callable 64 (1 ∷ 1 ∷ [])
-    one-one = below-cons 1 (1 ∷ []) (lit< tt) one
 
 numbers : (W : Width) → Numbers W
 numbers W words start bs = ten-last (run (W .bits) (bs ∷ []) words start) (2 ∷ 4 ∷ 5 ∷ 9 ∷ [])

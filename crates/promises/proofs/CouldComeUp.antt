@@ -30,8 +30,8 @@ use Rattle.rules.specs.Run.{Run, ran, short, run, suffices}
 use Rattle.rules.specs.Width.{Width}
 use Rattle.rules.proofs.Pinned.{pinned}
 use Rattle.rules.proofs.PinnedReservoir.{reservoir-pinned}
-use Rattle.rules.proofs.Reservoir.{sample-length}
-use Rattle.rules.proofs.Rows.{countup-length, countup-at}
+use Rattle.rules.proofs.Reservoir.{length-sample}
+use Rattle.rules.proofs.Rows.{length-countup, getD-countup}
 use Rattle.rules.proofs.Runs.{Rolled}
 use Rattle.answers.specs.Outcome.{Outcome, decide, noWord}
 use Rattle.draws.specs.Sample.{samplePlan, sampled, sample, seenSample}
@@ -47,26 +47,26 @@ chosen n k i = drop k (set (countup n 0) i 0)
 module _ (n k i : ℕ) where
   chosen-length : length (chosen n k i) ≡ n - k
   unfolding chosen
-  chosen-length = rw (length-drop, length-set, countup-length)
+  chosen-length = rw (length-drop, length-set, length-countup)
 
   chosen-here : k ≤ i → i < n → getD (chosen n k i) (i - k) 0 ≡ 0
   unfolding chosen
   chosen-here l h =
       let e : k + (i - k) ≡ i = omega arith in
-      getD-drop k (set (countup n 0) i 0) (i - k) 0 ∙ rw e (getD-set-same (countup n 0) i 0 0 (rw countup-length h))
+      getD-drop k (set (countup n 0) i 0) (i - k) 0 ∙ rw e (getD-set-same (countup n 0) i 0 0 (rw length-countup h))
 
   chosen-elsewhere : (p : ℕ) → k + p < n → k + p ≢ i → getD (chosen n k i) p 0 ≡ k + p
   unfolding chosen
   chosen-elsewhere p h d =
-      getD-drop k (set (countup n 0) i 0) p 0 ∙ getD-set-other (countup n 0) i (k + p) 0 0 d ∙ countup-at n 0 (k + p) h ∙ omega arith
+      getD-drop k (set (countup n 0) i 0) p 0 ∙ getD-set-other (countup n 0) i (k + p) 0 0 d ∙ getD-countup n 0 (k + p) h ∙ omega arith
 
   chosen-range : T (inRange (countup (n - k) (k + 1)) (chosen n k i))
-  chosen-range = pinned .of-tests .range (countup (n - k) (k + 1)) (chosen n k i) .1 (chosen-length ∙ sym (countup-length (n - k) (k + 1)), below)
+  chosen-range = pinned .of-tests .range (countup (n - k) (k + 1)) (chosen n k i) .1 (chosen-length ∙ sym (length-countup (n - k) (k + 1)), below)
     where
       below : (p : ℕ) → p < length (countup (n - k) (k + 1)) → getD (chosen n k i) p 0 < getD (countup (n - k) (k + 1)) p 0
       below p h =
-          let l : p < n - k = rw countup-length at h in
-          rw (countup-at (n - k) (k + 1) p l) (go l (ℕ-discrete (k + p) i))
+          let l : p < n - k = rw length-countup at h in
+          rw (getD-countup (n - k) (k + 1) p l) (go l (ℕ-discrete (k + p) i))
         where
           go : p < n - k → Dec (k + p ≡ i) → getD (chosen n k i) p 0 < k + 1 + p
           go l (yes e) =
@@ -134,7 +134,7 @@ module _ (W : Width) (words xs : List ℕ) (k : ℕ) (h : length xs ≤ maxRecor
       → Holds (seenSample W words 0 xs k lent) j (getD (reservoir (take k xs) (drop k xs) rs) j 0)
   held rs lent j room within (t, e) =
       let slots : List ℕ = reservoir (take k xs) (drop k xs) rs in
-      rw (drawn (length lent) room t, e) (refl, List·getD-append slots (drop (length slots) lent) 0 j (rw (sample-length xs rs k l) within))
+      rw (drawn (length lent) room t, e) (refl, List·getD-append slots (drop (length slots) lent) 0 j (rw (length-sample xs rs k l) within))
 
 pub comes-up : (W : Width) (n k i : ℕ) → n ≤ maxRecords → 1 ≤ k → k ≤ n → i < n
     → PlanOf (2 ^ W .bits) (countup (n - k) (k + 1)) (samplePlan W n k) → ComesUp W (seenSample W) n k i

@@ -1,35 +1,32 @@
 -- A shuffle that works the first batch only, on any number of records. Its order is that of another series of rolls: the first batch's, and
 -- then rolls that exchange each record with itself. Two series never give one order, so from two batches on it goes wrong. Assumes nothing.
 --
---   firsts        the first word of each run: a list of words behind a given series of rolls
 --   mixed s n     s rolls of 0, and then the rolls that exchange each record with itself
 --   stand-ins3    the stand-ins of demand 3
 use mathlib.Core.Path.{_≡_, refl, sym, ap, _∙_, subst}
 use mathlib.Core.Bool.{Bool, true, false}
 use mathlib.Core.List.{List, [], _∷_}
 use Prim.Native.Nat.{ℕ, zero, suc, _-_, _^_, _<_, _≤_}
-use native.Mathlib.Nat.{le-refl, lt-of-le-of-lt, not-suc-le-zero, le-of-suc-le-suc}
+use native.Mathlib.Nat.{le-refl, not-suc-le-zero, le-of-suc-le-suc}
 use native.Mathlib.Omega.{arith}
 use lib.Dec.{T, leb, lit≤, lit<}
 use lib.ListN.{length, take, drop, getD, set, replicate}
 use lib.Seq.{set-getD, take-all}
 use borrow.Author.Tests.{le-leb, lt-leb}
 use Rattle.rules.specs.Limits.{maxRecords}
-use Rattle.rules.specs.Order.{AllBelow, Distinct}
-use Rattle.rules.specs.Plan.{joined, RollablePlan}
+use Rattle.rules.specs.Order.{Distinct}
+use Rattle.rules.specs.Plan.{joined}
 use Rattle.rules.specs.Reservoir.{countup}
-use Rattle.rules.specs.Rolls.{rolls, rest, product, inRange, firstWord}
+use Rattle.rules.specs.Rolls.{rolls, rest, product, inRange}
 use Rattle.rules.specs.Run.{find, run, runFrom, trace, rollsOf, next, rejected}
 use Rattle.rules.specs.Shuffle.{exchange, shuffleWith, countdown, shuffleBounds, shufflePlanFrom, shufflePlan}
 use Rattle.rules.specs.Width.{w64, size64}
 use Rattle.rules.proofs.Each.{countup-distinct}
 use Rattle.rules.proofs.Orders.{range-cons, shuffle-reorders, one-series}
-use Rattle.rules.proofs.Range.{length-in-range, range-split}
+use Rattle.rules.proofs.Range.{length-in-range}
 use Rattle.rules.proofs.Reach.{rolled-in-range, words-in-runs}
 use Rattle.rules.proofs.Rows.{length-countup, no-bounds, getD-countdown, length-shuffle-bounds}
-use Rattle.rules.proofs.Runs.{InRuns}
 use Rattle.rules.proofs.Widths.{good64}
-use Rattle.rules.proofs.Words.{first-last, last-fits}
 use Rattle.answers.specs.Outcome.{decide}
 use Rattle.runs.specs.Behind.{seenBehind}
 use Rattle.orders.specs.Order.{seenOrder}
@@ -41,35 +38,9 @@ use Rattle.promises.specs.FirstBatch.{StandIns3}
 use Rattle.promises.specs.Shuffle.{Op, MovesNothing, FirstBatchOnly}
 use Rattle.promises.proofs.Calls.{one-number}
 use Rattle.promises.proofs.Demand3.{produces, same-at, demand3}
+use Rattle.promises.proofs.Firsts.{firsts, firsts-count, firsts-in, firsts-below}
 use Rattle.promises.proofs.Refusing.{truth, beside-refused}
 use Rattle.promises.proofs.Shuffle.{plan-fits, demand1}
-
--- ---- the first word of each run
-
-firsts : List (List ℕ) → List ℕ → List ℕ
-firsts [] rs = []
-firsts (bs ∷ plan) rs = firstWord 64 bs (take (length bs) rs) ∷ firsts plan (drop (length bs) rs)
-
-firsts-count : (plan : List (List ℕ)) (rs : List ℕ) → length (firsts plan rs) ≡ length plan
-unfolding firsts
-firsts-count [] rs = refl
-firsts-count (bs ∷ plan) rs = ap suc (firsts-count plan (drop (length bs) rs))
-
-firsts-in : (plan : List (List ℕ)) (rs : List ℕ) → RollablePlan (2 ^ 64) plan → InRuns 64 plan rs (firsts plan rs)
-unfolding firsts
-firsts-in [] rs g = tt
-firsts-in (bs ∷ plan) rs (b, g) =
-    (le-refl _, first-last 64 bs (take (length bs) rs) (b .positive) (b .fits), firsts-in plan (drop (length bs) rs) g)
-
-firsts-below : (plan : List (List ℕ)) (rs : List ℕ) → RollablePlan (2 ^ 64) plan → T (inRange (joined plan) rs) → AllBelow (2 ^ 64) (firsts plan rs)
-unfolding firsts joined
-firsts-below [] rs g r i h = absurd (not-suc-le-zero h)
-firsts-below (bs ∷ plan) rs (b, g) r zero h =
-    let part : List ℕ = take (length bs) rs in
-    lt-of-le-of-lt (first-last 64 bs part (b .positive) (b .fits))
-    (last-fits 64 bs part (b .positive) (b .fits) (range-split bs (joined plan) rs r .0))
-firsts-below (bs ∷ plan) rs (b, g) r (suc i) h =
-    firsts-below plan (drop (length bs) rs) g (range-split bs (joined plan) rs r .1) i (le-of-suc-le-suc h)
 
 -- ---- rolls of 0, and then rolls that exchange each record with itself
 
@@ -155,10 +126,10 @@ module _ (op : Op) (f : FirstBatchOnly w64 op) where
       let own : List ℕ = mixed s n in
       let range : T (inRange (shuffleBounds n) rs) = mixed-range (n - 1) n (omega arith) in
       let own-in : T (inRange (shuffleBounds n) own) = mixed-range s n (omega arith) in
-      let words : List ℕ = firsts plan rs in
-      let below : Callable 64 words = firsts-below plan rs (good .rollable) (rw (good .same) range) in
-      let count : length words ≡ length plan = firsts-count plan rs in
-      let (t, e) = words-in-runs 64 plan rs words (good .rollable) (rw (good .same) range) count below .1 (firsts-in plan rs (good .rollable)) in
+      let words : List ℕ = firsts 64 plan rs in
+      let below : Callable 64 words = firsts-below 64 plan rs (good .rollable) (rw (good .same) range) in
+      let count : length words ≡ length plan = firsts-count 64 plan rs in
+      let (t, e) = words-in-runs 64 plan rs words (good .rollable) (rw (good .same) range) count below .1 (firsts-in 64 plan rs (good .rollable)) in
       let made = produces w64 words xs (shuffleWith n (shuffleRolls w64 words 0 xs) xs) high .1 (t, refl) in
       let allowed : op words 0 xs .0 .no ≡ 0 = same-number words xs below ∙ made .0 in
       let ys : List ℕ = shuffleWith n own xs in

@@ -21,7 +21,7 @@ use Rattle.lists.specs.List.{listRefusals, rollList, seenList}
 use Rattle.promises.specs.Demand1.{Callable, firstOf}
 use Rattle.promises.specs.Demand2.{Allowed, ByMethod}
 use Rattle.promises.specs.List.{Op, Numbers, Demand1, Demand2, Bounds, Settled, StandIns, Promise}
-use Rattle.promises.proofs.Calls.{below-nil, below-cons, one-number}
+use Rattle.promises.proofs.Calls.{below-nil, one-number, word-0, word-half, words-01, words-11}
 use Rattle.promises.proofs.Method.{by-method, rolled-count, same-seen}
 use Rattle.promises.proofs.Refusing.{beside-refused, allowed-cons, allowed-done, numbered-no, numbered-words, settle, ten-last}
 
@@ -76,40 +76,28 @@ stand-ins = record {
   refuses = λ op r d. r [] 0 [] [] below-nil below-nil (d [] 0 [] [] below-nil below-nil refl .none .0);
   -- bound 2: word 0 gives 0, and word 2^63 gives 1
   fixed = λ op made f d.
-      let low = agrees w64 good64 op d (0 ∷ []) 0 (2 ∷ []) (0 ∷ []) zero two refl in
-      let high = agrees w64 good64 op d (2 ^ 63 ∷ []) 0 (2 ∷ []) (0 ∷ []) half two refl in
-      let same = f (0 ∷ []) 0 (2 ∷ []) (0 ∷ []) (d (0 ∷ []) 0 (2 ∷ []) (0 ∷ []) zero two refl .none .0)
-      ∙ sym (f (2 ^ 63 ∷ []) 0 (2 ∷ []) (0 ∷ []) (d (2 ^ 63 ∷ []) 0 (2 ∷ []) (0 ∷ []) half two refl .none .0)) in
+      let low = agrees w64 good64 op d (0 ∷ []) 0 (2 ∷ []) (0 ∷ []) word-0 two refl in
+      let high = agrees w64 good64 op d (2 ^ 63 ∷ []) 0 (2 ∷ []) (0 ∷ []) word-half two refl in
+      let same = f (0 ∷ []) 0 (2 ∷ []) (0 ∷ []) (d (0 ∷ []) 0 (2 ∷ []) (0 ∷ []) word-0 two refl .none .0)
+      ∙ sym (f (2 ^ 63 ∷ []) 0 (2 ∷ []) (0 ∷ []) (d (2 ^ 63 ∷ []) 0 (2 ∷ []) (0 ∷ []) word-half two refl .none .0)) in
       let z : _≡_ {A = ℕ} 0 1 =
       ap (λ (l : List ℕ). getD l 0 0) (sym (ap (λ (x : Answer × List ℕ). x .1) low) ∙ same ∙ ap (λ (x : Answer × List ℕ). x .1) high) in
       omega arith;
   -- bound 6: of the words 0, 1 one is rejected, of the words 1, 1 none
   invented = λ op made f d.
-      let some = agrees w64 good64 op d (0 ∷ 1 ∷ []) 0 (6 ∷ []) (0 ∷ []) zero-one six refl in
-      let none = agrees w64 good64 op d (1 ∷ 1 ∷ []) 0 (6 ∷ []) (0 ∷ []) one-one six refl in
-      let same = f (0 ∷ 1 ∷ []) 0 (6 ∷ []) (0 ∷ []) (d (0 ∷ 1 ∷ []) 0 (6 ∷ []) (0 ∷ []) zero-one six refl .none .0)
-      ∙ sym (f (1 ∷ 1 ∷ []) 0 (6 ∷ []) (0 ∷ []) (d (1 ∷ 1 ∷ []) 0 (6 ∷ []) (0 ∷ []) one-one six refl .none .0)) in
+      let some = agrees w64 good64 op d (0 ∷ 1 ∷ []) 0 (6 ∷ []) (0 ∷ []) words-01 six refl in
+      let none = agrees w64 good64 op d (1 ∷ 1 ∷ []) 0 (6 ∷ []) (0 ∷ []) words-11 six refl in
+      let same = f (0 ∷ 1 ∷ []) 0 (6 ∷ []) (0 ∷ []) (d (0 ∷ 1 ∷ []) 0 (6 ∷ []) (0 ∷ []) words-01 six refl .none .0)
+      ∙ sym (f (1 ∷ 1 ∷ []) 0 (6 ∷ []) (0 ∷ []) (d (1 ∷ 1 ∷ []) 0 (6 ∷ []) (0 ∷ []) words-11 six refl .none .0)) in
       let z : _≡_ {A = ℕ} 1 0 = sym (ap (λ (x : Answer × List ℕ). x .0 .rejected) some) ∙ same ∙ ap (λ (x : Answer × List ℕ). x .0 .rejected) none in
       omega arith;
 }
   where
-    zero : Callable 64 (0 ∷ [])
-    zero = one-number 0 (lit< tt)
-
     two : Callable 64 (2 ∷ [])
     two = one-number 2 (lit< tt)
 
     six : Callable 64 (6 ∷ [])
     six = one-number 6 (lit< tt)
-
-    half : Callable 64 (2 ^ 63 ∷ [])
-    half = one-number (2 ^ 63) (lit< tt)
-
-    zero-one : Callable 64 (0 ∷ 1 ∷ [])
-    zero-one = below-cons 0 (1 ∷ []) (lit< tt) (one-number 1 (lit< tt))
-
-    one-one : Callable 64 (1 ∷ 1 ∷ [])
-    one-one = below-cons 1 (1 ∷ []) (lit< tt) (one-number 1 (lit< tt))
 
 pub promise : Promise w64
 promise = record {

@@ -27,7 +27,7 @@ use Rattle.draws.specs.Sample.{samplePlan, sampleRefusals, sample, seenSample}
 use Rattle.promises.specs.Demand1.{Callable, firstOf}
 use Rattle.promises.specs.Demand2.{Allowed, ByMethod}
 use Rattle.promises.specs.Sample.{Op, Numbers, Demand1, Demand2, Bounds, Settled, StandIns, CouldComeUp, Promise}
-use Rattle.promises.proofs.Calls.{below-nil, below-cons, one-number}
+use Rattle.promises.proofs.Calls.{below-nil, word-0, word-half, words-01, words-11}
 use Rattle.promises.proofs.CouldComeUp.{comes-up}
 use Rattle.promises.proofs.Method.{by-method, same-seen}
 use Rattle.promises.proofs.Refusing.{beside-refused, allowed-cons, allowed-done, numbered-no, numbered-words, settle, ten-last}
@@ -97,33 +97,21 @@ stand-ins = record {
   refuses = λ op r d. r [] 0 (7 ∷ []) 1 (0 ∷ []) below-nil (d [] 0 (7 ∷ []) 1 (0 ∷ []) below-nil refl .none .0);
   -- one of two records: word 0 takes the second, and word 2^63 the first
   fixed = λ op made f d.
-      let low = agrees w64 good64 op d (0 ∷ []) 0 two-records 1 (0 ∷ []) zero refl in
-      let high = agrees w64 good64 op d (2 ^ 63 ∷ []) 0 two-records 1 (0 ∷ []) half refl in
-      let same = f (0 ∷ []) 0 two-records 1 (0 ∷ []) (d (0 ∷ []) 0 two-records 1 (0 ∷ []) zero refl .none .0)
-      ∙ sym (f (2 ^ 63 ∷ []) 0 two-records 1 (0 ∷ []) (d (2 ^ 63 ∷ []) 0 two-records 1 (0 ∷ []) half refl .none .0)) in
+      let low = agrees w64 good64 op d (0 ∷ []) 0 two-records 1 (0 ∷ []) word-0 refl in
+      let high = agrees w64 good64 op d (2 ^ 63 ∷ []) 0 two-records 1 (0 ∷ []) word-half refl in
+      let same = f (0 ∷ []) 0 two-records 1 (0 ∷ []) (d (0 ∷ []) 0 two-records 1 (0 ∷ []) word-0 refl .none .0)
+      ∙ sym (f (2 ^ 63 ∷ []) 0 two-records 1 (0 ∷ []) (d (2 ^ 63 ∷ []) 0 two-records 1 (0 ∷ []) word-half refl .none .0)) in
       let z : _≡_ {A = ℕ} 1 0 = sym (ap front low) ∙ ap (λ (l : List ℕ). getD l 0 0) same ∙ ap front high in
       omega arith;
   -- one of three records: of the words 0, 1 one is rejected, of the words 1, 1 none
   invented = λ op made f d.
-      let some = agrees w64 good64 op d (0 ∷ 1 ∷ []) 0 three-records 1 (0 ∷ []) zero-one refl in
-      let none = agrees w64 good64 op d (1 ∷ 1 ∷ []) 0 three-records 1 (0 ∷ []) one-one refl in
-      let same = f (0 ∷ 1 ∷ []) 0 three-records 1 (0 ∷ []) (d (0 ∷ 1 ∷ []) 0 three-records 1 (0 ∷ []) zero-one refl .none .0)
-      ∙ sym (f (1 ∷ 1 ∷ []) 0 three-records 1 (0 ∷ []) (d (1 ∷ 1 ∷ []) 0 three-records 1 (0 ∷ []) one-one refl .none .0)) in
+      let some = agrees w64 good64 op d (0 ∷ 1 ∷ []) 0 three-records 1 (0 ∷ []) words-01 refl in
+      let none = agrees w64 good64 op d (1 ∷ 1 ∷ []) 0 three-records 1 (0 ∷ []) words-11 refl in
+      let same = f (0 ∷ 1 ∷ []) 0 three-records 1 (0 ∷ []) (d (0 ∷ 1 ∷ []) 0 three-records 1 (0 ∷ []) words-01 refl .none .0)
+      ∙ sym (f (1 ∷ 1 ∷ []) 0 three-records 1 (0 ∷ []) (d (1 ∷ 1 ∷ []) 0 three-records 1 (0 ∷ []) words-11 refl .none .0)) in
       let z : _≡_ {A = ℕ} 1 0 = sym (ap (λ (x : Answer × List ℕ). x .0 .rejected) some) ∙ same ∙ ap (λ (x : Answer × List ℕ). x .0 .rejected) none in
       omega arith;
 }
-  where
-    zero : Callable 64 (0 ∷ [])
-    zero = one-number 0 (lit< tt)
-
-    half : Callable 64 (2 ^ 63 ∷ [])
-    half = one-number (2 ^ 63) (lit< tt)
-
-    zero-one : Callable 64 (0 ∷ 1 ∷ [])
-    zero-one = below-cons 0 (1 ∷ []) (lit< tt) (one-number 1 (lit< tt))
-
-    one-one : Callable 64 (1 ∷ 1 ∷ [])
-    one-one = below-cons 1 (1 ∷ []) (lit< tt) (one-number 1 (lit< tt))
 
 could-come-up : (W : Width) → GoodWidth W → CouldComeUp W (seenSample W)
 could-come-up W g n k i h p l b = comes-up W n k i h p l b (plan-fits W g n k h)

@@ -29,7 +29,7 @@ use Rattle.shuffles.specs.Shuffle.{shuffleRefusals, shuffle, seenShuffle}
 use Rattle.promises.specs.Demand1.{Callable, firstOf}
 use Rattle.promises.specs.Demand2.{Allowed, ByMethod}
 use Rattle.promises.specs.Shuffle.{Op, Numbers, Demand1, Demand2, Bounds, Settled, StandIns, Promise}
-use Rattle.promises.proofs.Calls.{below-nil, below-cons, one-number}
+use Rattle.promises.proofs.Calls.{below-nil, word-0, word-half, words-01, words-10, words-11}
 use Rattle.promises.proofs.Method.{by-method, same-seen}
 use Rattle.promises.proofs.Refusing.{beside-refused, allowed-cons, allowed-done, numbered-no, numbered-words, settle, ten-last}
 
@@ -97,47 +97,32 @@ stand-ins = record {
   refuses = λ op r d. r [] 0 [] below-nil (d [] 0 [] below-nil refl .none .0);
   -- two records: word 0 exchanges them, and word 2^63 does not
   fixed = λ op made f d.
-      let low = agrees w64 good64 op d (0 ∷ []) 0 two-records zero refl in
-      let high = agrees w64 good64 op d (2 ^ 63 ∷ []) 0 two-records half refl in
-      let same = f (0 ∷ []) 0 two-records (d (0 ∷ []) 0 two-records zero refl .none .0)
-      ∙ sym (f (2 ^ 63 ∷ []) 0 two-records (d (2 ^ 63 ∷ []) 0 two-records half refl .none .0)) in
+      let low = agrees w64 good64 op d (0 ∷ []) 0 two-records word-0 refl in
+      let high = agrees w64 good64 op d (2 ^ 63 ∷ []) 0 two-records word-half refl in
+      let same = f (0 ∷ []) 0 two-records (d (0 ∷ []) 0 two-records word-0 refl .none .0)
+      ∙ sym (f (2 ^ 63 ∷ []) 0 two-records (d (2 ^ 63 ∷ []) 0 two-records word-half refl .none .0)) in
       let z : _≡_ {A = ℕ} 1 0 = sym (ap front low) ∙ ap (λ (l : List ℕ). getD l 0 0) same ∙ ap front high in
       omega arith;
   -- two records, word 0: exchanged
   nothing = λ op m d.
-      let e = agrees w64 good64 op d (0 ∷ []) 0 two-records zero refl in
+      let e = agrees w64 good64 op d (0 ∷ []) 0 two-records word-0 refl in
       let z : _≡_ {A = ℕ} 0 1 = sym (ap (λ (l : List ℕ). getD l 0 0) (m (0 ∷ []) 0 two-records)) ∙ ap front e in
       omega arith;
   -- eight records, words 1, 0: place 0 gets 1 in the end, and has 2 after the first batch
   first-batch = λ op f d.
-      let e = agrees w64 good64 op d (1 ∷ 0 ∷ []) 0 eight-records one-zero refl in
-      let given = f .moves (1 ∷ 0 ∷ []) 0 eight-records (d (1 ∷ 0 ∷ []) 0 eight-records one-zero refl .none .0) in
+      let e = agrees w64 good64 op d (1 ∷ 0 ∷ []) 0 eight-records words-10 refl in
+      let given = f .moves (1 ∷ 0 ∷ []) 0 eight-records (d (1 ∷ 0 ∷ []) 0 eight-records words-10 refl .none .0) in
       let z : _≡_ {A = ℕ} 2 1 = sym (ap (λ (l : List ℕ). getD l 0 0) given) ∙ ap front e in
       omega arith;
   -- three records: of the words 0, 1 one is rejected, of the words 1, 1 none
   invented = λ op made f d.
-      let some = agrees w64 good64 op d (0 ∷ 1 ∷ []) 0 three-records zero-one refl in
-      let none = agrees w64 good64 op d (1 ∷ 1 ∷ []) 0 three-records one-one refl in
-      let same = f (0 ∷ 1 ∷ []) 0 three-records (d (0 ∷ 1 ∷ []) 0 three-records zero-one refl .none .0)
-      ∙ sym (f (1 ∷ 1 ∷ []) 0 three-records (d (1 ∷ 1 ∷ []) 0 three-records one-one refl .none .0)) in
+      let some = agrees w64 good64 op d (0 ∷ 1 ∷ []) 0 three-records words-01 refl in
+      let none = agrees w64 good64 op d (1 ∷ 1 ∷ []) 0 three-records words-11 refl in
+      let same = f (0 ∷ 1 ∷ []) 0 three-records (d (0 ∷ 1 ∷ []) 0 three-records words-01 refl .none .0)
+      ∙ sym (f (1 ∷ 1 ∷ []) 0 three-records (d (1 ∷ 1 ∷ []) 0 three-records words-11 refl .none .0)) in
       let z : _≡_ {A = ℕ} 1 0 = sym (ap (λ (x : Answer × List ℕ). x .0 .rejected) some) ∙ same ∙ ap (λ (x : Answer × List ℕ). x .0 .rejected) none in
       omega arith;
 }
-  where
-    zero : Callable 64 (0 ∷ [])
-    zero = one-number 0 (lit< tt)
-
-    half : Callable 64 (2 ^ 63 ∷ [])
-    half = one-number (2 ^ 63) (lit< tt)
-
-    one-zero : Callable 64 (1 ∷ 0 ∷ [])
-    one-zero = below-cons 1 (0 ∷ []) (lit< tt) zero
-
-    zero-one : Callable 64 (0 ∷ 1 ∷ [])
-    zero-one = below-cons 0 (1 ∷ []) (lit< tt) (one-number 1 (lit< tt))
-
-    one-one : Callable 64 (1 ∷ 1 ∷ [])
-    one-one = below-cons 1 (1 ∷ []) (lit< tt) (one-number 1 (lit< tt))
 
 pub promise : Promise w64
 promise = record {
