@@ -15,7 +15,7 @@ ghost use Rattle.shuffles.specs.Shuffle.{seenShuffle};
 ghost use Rattle.draws.specs.Sample.{seenSample};
 ghost use Rattle.runs.specs.Behind.{seenBehind};
 ghost use Rattle.orders.specs.Order.{seenOrder};
-ghost use Rattle.sheet.specs.Operations.{seenSheet};
+ghost use Rattle.sheet.specs.RunSheet.{seenSheet};
 ghost use Rattle.promises.specs.Batch as batch;
 ghost use Rattle.promises.specs.List as list;
 ghost use Rattle.promises.specs.Shuffle as shuffle;

@@ -22,7 +22,7 @@ use Rattle.rules.specs.Run.{Run, ran, short, run, find, runFrom, rollsOf, next,
 use Rattle.answers.specs.Outcome.{Outcome, refused, no, noWord, decide, shown, left}
 use Rattle.draws.specs.Sample.{samplePlan}
 use Rattle.sheet.specs.Sheet.{Numbers, numbers, little, entries, wordsOf, Sound}
-use Rattle.sheet.specs.Operations.{runSheet, shownDrawn}
+use Rattle.sheet.specs.RunSheet.{runSheet, shownDrawn}
 use Rattle.sheet.specs.declared.run.Drawn.{Drawn}
 use Rattle.sheet.proofs.Soundness.{sound-known, sound-false, sheet-refusal, four-only}
 use Rattle.sheet.proofs.OneSheet.{sheet-unsound}

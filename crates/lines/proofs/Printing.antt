@@ -23,7 +23,7 @@ use borrow.Author.Tests.{ne-eqb}
 use Rattle.rules.specs.Width.{w64}
 use Rattle.rules.proofs.Writing.{drop-next}
 use Rattle.answers.specs.Outcome.{left}
-use Rattle.sheet.specs.Operations.{runSheet, shownDrawn}
+use Rattle.sheet.specs.RunSheet.{runSheet, shownDrawn}
 use Rattle.sheet.specs.declared.run.Drawn.{Drawn}
 use Rattle.lines.specs.Text.{decimal, line, earlyText, lateText, drawLine, slotLine, refusedLine, firstLine, slotLines, told, room, output}
 use Rattle.lines.specs.Inner.{Written}

@@ -27,9 +27,10 @@ use lib.Dec.{ltb}
 use lib.ListN.{length, set, length-append, take-append-drop}
 use lib.Seq.{take-length, set-split, paste}
 use borrow.Author.Tests.{lt-ltb, le-ltb, ltb-true, ltb-false}
-use Rattle.rules.proofs.Writing.{drop-more, wrote-front, wrote-back, length-wrote}
+use Rattle.rules.proofs.Writing.{drop-more, take-put, drop-put, length-put}
 use Rattle.lines.specs.Text.{digit, digits, decimal}
-use Rattle.lines.specs.Inner.{put, Room, Written}
+use Rattle.rules.specs.Put.{put}
+use Rattle.lines.specs.Inner.{Room, Written}
 
 -- ---- a number in decimal
 
@@ -76,7 +77,7 @@ digit-count (suc k) n h = go (ltb n 10) refl (digit-count k (n / 10))
         let m : n / 10 < 10 ^ suc k = omega (arith, pow-suc 10 (suc k)) in
         omega (arith, decimal-longer n (ltb-false _ _ e), f m)
 
--- ---- bytes at a place of a list: `put out at bs` is what Writing calls `wrote`
+-- ---- bytes at a place of a list
 
 put-none : (out : List ℕ) (at : ℕ) → put out at [] ≡ out
 put-none out at = let e : at + 0 ≡ at = omega arith in rw e (take-append-drop at out)
@@ -85,19 +86,19 @@ put-first : (out : List ℕ) (at b : ℕ) → at < length out → set out at b �
 put-first out at b h = rw (add-one at) (set-split out at b h)
 
 module _ (out : List ℕ) (at : ℕ) (bs : List ℕ) (h : Room out at bs) where
-  put-length : length (put out at bs) ≡ length out
-  put-length = length-wrote out bs at h
+  length-put-bytes : length (put out at bs) ≡ length out
+  length-put-bytes = length-put out bs at h
 
   -- more bytes behind them
   put-put : (cs : List ℕ) → put (put out at bs) (at + length bs) cs ≡ put out at (bs ++ cs)
   put-put cs =
       let e : at + length (bs ++ cs) ≡ at + length bs + length cs = rw length-append (omega arith) in
-      let back = drop-more (put out at bs) out (at + length bs) (length cs) (wrote-back out bs at h) in
-      ap₂ (λ (l m : List ℕ). l ++ (cs ++ m)) (wrote-front out bs at h) back ∙ rw e (simp append-assoc)
+      let back = drop-more (put out at bs) out (at + length bs) (length cs) (drop-put out bs at h) in
+      ap₂ (λ (l m : List ℕ). l ++ (cs ++ m)) (take-put out bs at h) back ∙ rw e (simp append-assoc)
 
   -- one byte behind them
   put-one : (b : ℕ) → at + length bs < length out → set (put out at bs) (at + length bs) b ≡ put out at (bs ++ b ∷ [])
-  put-one b l = put-first (put out at bs) (at + length bs) b (rw put-length l) ∙ put-put (b ∷ [])
+  put-one b l = put-first (put out at bs) (at + length bs) b (rw length-put-bytes l) ∙ put-put (b ∷ [])
 
 -- ---- a text, byte by byte: the loop's copy is the kit's `paste`
 
@@ -156,7 +157,7 @@ module _ {out₀ : List ℕ} {at₀ : ℕ} {bs : List ℕ} where
     front-room {rest = rest} v = omega (arith, v .room, ap length (v .parts), length-append (v .front) rest)
 
     pub same-list : {rest : List ℕ} → SoFar out₀ at₀ bs out at rest → length out ≡ length out₀
-    same-list v = ap length (v .written .1) ∙ put-length out₀ at₀ (v .front) (omega (arith, front-room v))
+    same-list v = ap length (v .written .1) ∙ length-put-bytes out₀ at₀ (v .front) (omega (arith, front-room v))
 
     module _ (cs rest : List ℕ) (v : SoFar out₀ at₀ bs out at (cs ++ rest)) where
       pub next-room : Room out at cs

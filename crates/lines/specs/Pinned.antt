@@ -17,7 +17,7 @@ use Prim.Native.Nat.{ℕ, _+_, _*_, _-_, _<_, _≤_}
 use lib.ListN.{length, take, getD, replicate}
 use Rattle.rules.specs.Width.{w64}
 use Rattle.answers.specs.Outcome.{refused}
-use Rattle.sheet.specs.Operations.{runSheet}
+use Rattle.sheet.specs.RunSheet.{runSheet}
 use Rattle.lines.specs.Text.{decimal, refusedLine, room, output}
 
 unfoldable pub spelledFrom : ℕ → List ℕ → ℕ

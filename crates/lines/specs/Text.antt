@@ -20,7 +20,7 @@ use lib.Dec.{ltb, eqb}
 use lib.ListN.{take, replicate}
 use Rattle.rules.specs.Width.{w64}
 use Rattle.answers.specs.Outcome.{Outcome, left}
-use Rattle.sheet.specs.Operations.{runSheet, shownDrawn}
+use Rattle.sheet.specs.RunSheet.{runSheet, shownDrawn}
 use Rattle.sheet.specs.declared.run.Drawn.{Drawn}
 
 -- 48 is the code of `0`.

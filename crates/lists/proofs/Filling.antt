@@ -26,7 +26,7 @@ use Rattle.lists.proofs.Cutting.{part}
 use Rattle.lists.proofs.Listing.{batchAt, batch-within, batch-rest, batch-part, cut-end, cut-find}
 use Rattle.rules.proofs.Running.{rolledBy}
 use Rattle.rolls.proofs.Stepping.{hit-suffices, hit-rolled, hit-within, never-missing}
-use Rattle.rules.proofs.Writing.{wrote-front, wrote-back, length-wrote, lent, drop-more}
+use Rattle.rules.proofs.Writing.{take-put, drop-put, length-put, lent, drop-more}
 
 -- ---- the loop
 
@@ -73,12 +73,12 @@ module _ (W : Width) (words : List ℕ) (start : ℕ) (bs out₀ out : List ℕ)
         rw (wrote-d, end) (
           omega (arith, hit-within (W .bits) batch plan words to (v .4 .0) _ same w place m s),
           omega (arith, n, batch-within W bs at h),
-          length-wrote out d at fits ∙ v .2,
-          wrote-back out d at fits ∙ drop-more out out₀ at (length d) (v .3),
+          length-put out d at fits ∙ v .2,
+          drop-put out d at fits ∙ drop-more out out₀ at (length d) (v .3),
           (
             v .4 .0 + 1,
             hit-suffices (W .bits) batch plan words to (v .4 .0) _ same w place m s k,
-            ap (λ (x : List ℕ). x ++ rolledBy (W .bits) plan (runFrom (W .bits) plan words (place + 1) (v .4 .0 + 1))) (wrote-front out d at fits)
+            ap (λ (x : List ℕ). x ++ rolledBy (W .bits) plan (runFrom (W .bits) plan words (place + 1) (v .4 .0 + 1))) (take-put out d at fits)
                 ∙ append-assoc (take at out) d _
                 ∙ ap (λ (x : List ℕ). take at out ++ x) (sym (hit-rolled (W .bits) batch plan words to (v .4 .0) _ same w place m s k))
                 ∙ (rw rest at (v .4 .2)),

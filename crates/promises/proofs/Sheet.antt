@@ -24,7 +24,7 @@ use Rattle.answers.specs.Outcome.{Refusal, no, noWord, ofWords, outside, left}
 use Rattle.answers.specs.declared.answer.Answer.{Answer}
 use Rattle.draws.specs.Sample.{samplePlan, sampled}
 use Rattle.sheet.specs.Sheet.{little, number, numbers, entries, wordsOf, recordsOf, isSound}
-use Rattle.sheet.specs.Operations.{sheetRefusals, runSheet, drawnBy, shownDrawn, seenSheet}
+use Rattle.sheet.specs.RunSheet.{sheetRefusals, runSheet, drawnBy, shownDrawn, seenSheet}
 use Rattle.sheet.specs.declared.run.Drawn.{Drawn}
 use Rattle.sheet.proofs.Soundness.{sound-known, sound-iff, length-entries, sheet-records}
 use Rattle.promises.specs.Demand1.{firstOf}

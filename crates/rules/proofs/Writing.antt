@@ -5,7 +5,8 @@
 --   drop-more                                        lists that are alike from a place on are alike from a later one on
 --   Written, written-none, written-turn,             the loop that writes values that are known beforehand
 --     written-done, written-whole
---   wrote-front, wrote-back, length-wrote, lent      a part that was lent on, and written at its front
+--   take-put, drop-put, length-put                   numbers put at a place
+--   lent                                             a part that was lent on, and written at its front
 --   whole-list                                       values that fill the lent list leave nothing of it
 use mathlib.Core.Path.{_≡_, refl, sym, ap, ap₂, _∙_}
 use mathlib.Core.List.{List, [], _∷_, _++_, append-assoc, append-nil}
@@ -15,6 +16,7 @@ use native.Mathlib.Omega.{arith}
 use lib.ListN.{length, take, drop, set, getD, length-set, length-append, length-drop, take-append-drop, drop-of-length-le}
 use lib.Seq.{drop-cons, drop-drop, drop-set-lt, take-suc, take-suc-set, take-all, take-at, drop-at, length-take-le}
 use borrow.Rule.Slice.PartMut.{putMid}
+use Rattle.rules.specs.Put.{put}
 
 -- what stands from a place on is what stands there, and the rest
 pub drop-next : (l : List ℕ) (i : ℕ) → i < length l → drop i l ≡ getD l i 0 ∷ drop (i + 1) l
@@ -58,29 +60,26 @@ module _ (values : List ℕ) (n : ℕ) (all : length values ≡ n) (before out :
     pub written-whole : out ≡ values ++ drop n before
     written-whole = sym (take-append-drop n out) ∙ ap₂ _++_ (written-done .0) (written-done .1)
 
--- ---- a part of the list, lent on from the place at, to a function that wrote d at its front
+-- ---- numbers d put at a place, as by a function that the list was lent on to from there, and that wrote d at its front
 
 module _ (out d : List ℕ) (at : ℕ) (h : at + length d ≤ length out) where
-  abbrev wrote : List ℕ
-  wrote = take at out ++ (d ++ drop (at + length d) out)
-
   length-front-of : length (take at out ++ d) ≡ at + length d
   length-front-of = rw (length-append, length-take-le at out (omega arith))
 
-  again : wrote ≡ (take at out ++ d) ++ drop (at + length d) out
+  again : put out at d ≡ (take at out ++ d) ++ drop (at + length d) out
   again = rw append-assoc
 
-  pub wrote-front : take (at + length d) wrote ≡ take at out ++ d
-  wrote-front = rw again (take-at (take at out ++ d) _ _ length-front-of)
+  pub take-put : take (at + length d) (put out at d) ≡ take at out ++ d
+  take-put = rw again (take-at (take at out ++ d) _ _ length-front-of)
 
-  pub wrote-back : drop (at + length d) wrote ≡ drop (at + length d) out
-  wrote-back = rw again (drop-at (take at out ++ d) _ _ length-front-of)
+  pub drop-put : drop (at + length d) (put out at d) ≡ drop (at + length d) out
+  drop-put = rw again (drop-at (take at out ++ d) _ _ length-front-of)
 
-  pub length-wrote : length wrote ≡ length out
-  length-wrote = rw again (rw (length-append, length-front-of, length-drop) (omega arith))
+  pub length-put : length (put out at d) ≡ length out
+  length-put = rw again (rw (length-append, length-front-of, length-drop) (omega arith))
 
   pub lent : (last : List ℕ) → last ≡ d ++ drop (length d) (take (length out - at) (drop at out))
-      → putMid at (length out - at) out last ≡ wrote
+      → putMid at (length out - at) out last ≡ put out at d
   lent last e =
       let whole : take (length out - at) (drop at out) ≡ drop at out = take-all (length out - at) (drop at out) (rw length-drop (omega arith)) in
       let none : drop (length out - at) (drop at out) ≡ [] = drop-of-length-le (drop at out) {i = length out - at} (rw length-drop (omega arith)) in

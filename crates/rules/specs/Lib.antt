@@ -3,6 +3,7 @@ pub mod Limits
 pub mod Order
 pub mod Pinned
 pub mod Plan
+pub mod Put
 pub mod Reservoir
 pub mod Rolls
 pub mod Run

@@ -33,7 +33,7 @@ use Rattle.answers.specs.declared.answer.Answer.{Answer}
 use Rattle.answers.proofs.Deciding.{decide-here, decide-past, decide-under, in-count, below-count, above-count}
 use Rattle.draws.specs.Sample.{samplePlan, sampled, sample}
 use Rattle.sheet.specs.Sheet.{Numbers, numbers, entries, wordsOf, recordsOf, isSound}
-use Rattle.sheet.specs.Operations.{runSheet, drawnBy, shownDrawn}
+use Rattle.sheet.specs.RunSheet.{runSheet, drawnBy, shownDrawn}
 use Rattle.sheet.specs.declared.run.Drawn.{Drawn}
 use Rattle.sheet.proofs.Soundness.{sound-known, length-entries, sheet-records, sheet-room}
 

@@ -28,7 +28,7 @@ use Rattle.answers.specs.Outcome.{Outcome, refused, done, Refusal, no, noWord, 
 use Rattle.answers.proofs.Deciding.{decide-here, decide-past, in-count}
 use Rattle.draws.specs.Sample.{samplePlan}
 use Rattle.sheet.specs.Sheet.{Numbers, numbers, entries, wordsOf, recordsOf, wordsEnd, recordsEnd, Sound, isSound}
-use Rattle.sheet.specs.Operations.{sheetRefusals, runSheet}
+use Rattle.sheet.specs.RunSheet.{sheetRefusals, runSheet}
 
 -- ---- the test and the sentence
 

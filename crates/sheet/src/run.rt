@@ -14,7 +14,7 @@ ghost use Rattle.rules.specs.Width.{w64};
 ghost use Rattle.answers.specs.Outcome.{refused};
 ghost use Rattle.draws.specs.Sample.{seenSample};
 ghost use Rattle.sheet.specs.Sheet.{numbers, wordsOf, recordsOf, Sound, isSound};
-ghost use Rattle.sheet.specs.Operations.{drawnBy, shownDrawn, seenSheet};
+ghost use Rattle.sheet.specs.RunSheet.{drawnBy, shownDrawn, seenSheet};
 
 // The places of the six numbers, each of 4 bytes.
 const WORD_COUNT: usize = 0;

@@ -9,7 +9,7 @@ use Rattle.rules.specs.Width.{w64}
 use Rattle.answers.specs.Outcome.{Outcome}
 use Rattle.draws.specs.Sample.{sample}
 use Rattle.sheet.specs.Sheet.{numbers, wordsOf, recordsOf, Sound, isSound}
-use Rattle.sheet.specs.Operations.{runSheet}
+use Rattle.sheet.specs.RunSheet.{runSheet}
 use Rattle.sheet.proofs.Soundness.{sound-known, sheet-refusal, four-only}
 use Rattle.sheet.proofs.OneSheet.{no-slot, too-many, too-early, in-size, sheet-unsound, sheet-size, sheet-sample, refused-drawn, drawn-refused, NoneIsZero, done-batch, drawn-done}
 use borrow.Author.Needs.{needs}
