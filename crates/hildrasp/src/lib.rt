@@ -21,8 +21,8 @@ ghost use Rattle.promises.specs.List as list;
 ghost use Rattle.promises.specs.Shuffle as shuffle;
 ghost use Rattle.promises.specs.Sample as sample;
 ghost use Rattle.promises.specs.Behind as behind;
-ghost use Rattle.promises.specs.Order as order_;
-ghost use Rattle.promises.specs.Sheet as sheet_;
+ghost use Rattle.promises.specs.Order as orderBehind;
+ghost use Rattle.promises.specs.Sheet as sheetRun;
 
 #[no_mangle]
 pub extern "C" fn hildrasp_roll_batch(words: &[u64], start: usize, bounds: &[u64]) -> Batch
@@ -82,7 +82,7 @@ pub extern "C" fn hildrasp_words_behind(bounds: &[u64], rolls: &[u64]) -> Behind
 pub extern "C" fn hildrasp_rolls_behind(order: &[u32], rolls: &mut [u64]) -> Answer
     ensures answer { λ r. ⌜ r ≡ seenOrder (now (order .entry)) (now (rolls .entry)) .0 ⌝ }
     ensures rolls { λ r. ⌜ now (rolls .exit) ≡ seenOrder (now (order .entry)) (now (rolls .entry)) .1 ⌝ }
-    ensures demands { λ r. ⌜ order_.Refuses (now (order .entry)) (now (rolls .entry)) (r, now (rolls .exit)) × order_.Gives (now (order .entry)) (now (rolls .entry)) (r, now (rolls .exit)) ⌝ }
+    ensures demands { λ r. ⌜ orderBehind.Refuses (now (order .entry)) (now (rolls .entry)) (r, now (rolls .exit)) × orderBehind.Gives (now (order .entry)) (now (rolls .entry)) (r, now (rolls .exit)) ⌝ }
 {
     orders::order::rolls_behind(order, rolls)
 }
@@ -91,7 +91,7 @@ pub extern "C" fn hildrasp_rolls_behind(order: &[u32], rolls: &mut [u64]) -> Ans
 pub extern "C" fn hildrasp_run_sheet(sheet: &[u8], slots: &mut [u32]) -> Drawn
     ensures answer { λ r. ⌜ r ≡ seenSheet w64 (now (sheet .entry)) (now (slots .entry)) .0 ⌝ }
     ensures slots { λ r. ⌜ now (slots .exit) ≡ seenSheet w64 (now (sheet .entry)) (now (slots .entry)) .1 ⌝ }
-    ensures demands { λ r. ⌜ sheet_.Refuses w64 (now (sheet .entry)) (now (slots .entry)) (r, now (slots .exit)) × sheet_.Gives w64 (now (sheet .entry)) (now (slots .entry)) (r, now (slots .exit)) ⌝ }
+    ensures demands { λ r. ⌜ sheetRun.Refuses w64 (now (sheet .entry)) (now (slots .entry)) (r, now (slots .exit)) × sheetRun.Gives w64 (now (sheet .entry)) (now (slots .entry)) (r, now (slots .exit)) ⌝ }
 {
     sheet::run::run_sheet(sheet, slots)
 }

@@ -27,7 +27,7 @@ use Rattle.promises.specs.Demand2.{Allowed}
 use Rattle.promises.specs.Behind.{Op, Numbers, FullRun, Gives, Demand1, Demand2, Settled, StandIns, Promise}
 use Rattle.promises.proofs.Batch.{allowed-batch}
 use Rattle.promises.proofs.Calls.{one-number}
-use Rattle.promises.proofs.Method.{gives-iff}
+use Rattle.promises.proofs.Method.{accepts-iff}
 use Rattle.promises.proofs.Refusing.{truth, as-refused, allowed-cons, numbered-nil, numbered-no, numbered-bounds, settle}
 
 pos-no-zero : (bs : List ℕ) → 0 < product bs → hasZero bs ≡ false
@@ -71,7 +71,7 @@ demand2 W bs rs w v a =
     rw (run-named W bs rs g i) (
       run-full (W .bits) bs rs g i,
       λ w h.
-          let gives = gives-iff (W .bits) bs (g .positive) w h rs in
+          let gives = accepts-iff (W .bits) bs (g .positive) w h rs in
           let behind = words-behind (W .bits) bs rs (g .positive) (g .fits) i w h in
           (λ x. let (t, e) = gives .0 x in behind .0 (rw t tt, e), λ x. let (t, e) = behind .1 x in gives .1 (truth (accepted (W .bits) bs w) t, e)),
     )

@@ -1,6 +1,6 @@
 -- Lemire's method as demand 2 states it, and the definitions of rolls: each says what the other says, over every width. Assumes nothing.
 --
---   gives-iff                  a word is accepted with these rolls exactly where it gives them
+--   accepts-iff                  a word is accepted with these rolls exactly where it gives them
 --   Ran, RanAs, follows-run    the run of a plan follows the method
 --   RunBy, run-follows         and what follows the method is that run
 --   by-method, rolled-count    so what is read off the run is what the method gives; as many rolls as bounds
@@ -33,7 +33,7 @@ use Rattle.rules.proofs.Running.{run-hit, run-missing}
 use Rattle.rules.specs.Order.{AllBelow}
 use Rattle.rules.specs.Plan.{RollablePlan}
 use Rattle.promises.specs.Demand1.{Callable}
-use Rattle.promises.specs.Demand2.{Allowed, Unfolded, Gives, Rejects, First, Follows, Lemire, ByMethod, Suffice, OneOutcome}
+use Rattle.promises.specs.Demand2.{Allowed, Unfolded, Accepts, Rejects, First, Follows, Lemire, ByMethod, Suffice, OneOutcome}
 use Rattle.promises.proofs.Refusing.{truth, allowed-cons}
 
 -- ---- one word
@@ -52,8 +52,8 @@ module _ (L : ℕ) (bs : List ℕ) (p : 0 < product bs) (w : ℕ) (h : w < 2 ^ L
         sym (digits-mod (value bs (rolls L bs w)) below) ∙ ap (λ (n : ℕ). n % 2 ^ L) same ∙ digits-mod (value bs rs) (u .rest),
       )
 
-  pub gives-iff : (rs : List ℕ) → Gives L bs w rs ↔ ((accepted L bs w ≡ true) × (rolls L bs w ≡ rs))
-  gives-iff rs = (
+  pub accepts-iff : (rs : List ℕ) → Accepts L bs w rs ↔ ((accepted L bs w ≡ true) × (rolls L bs w ≡ rs))
+  accepts-iff rs = (
     λ (r, u, t). let (e, f) = unfolded-one rs r u in (le-leb (threshold L (product bs)) (rest L bs w) (rw f t), e),
     λ (t, e). (rest L bs w, subst (λ (l : List ℕ). Unfolded L bs w l (rest L bs w)) e unfolded, leb-true (threshold L (product bs)) (rest L bs w) t),
   )
@@ -117,7 +117,7 @@ module _ (L : ℕ) (bs words : List ℕ) (p : 0 < product bs) (w : AllBelow (2 ^
       let word : getD words (t .place) 0 ≡ t .word = sym (getD-drop from words (t .place - from) 0 ∙ ap (λ (n : ℕ). getD words n 0) back) ∙ a .word in
       record {
         here = (a .from, fits);
-        gives = gives-iff L bs p (getD words (t .place) 0) (w (t .place) fits) (rolls L bs (t .word)) .1 (rw word (a .passes, refl));
+        gives = accepts-iff L bs p (getD words (t .place) 0) (w (t .place) fits) (rolls L bs (t .word)) .1 (rw word (a .passes, refl));
         before = λ i h k.
             let same : from + (i - from) ≡ i = omega arith in
             let missed : accepted L bs (getD words i 0) ≡ false =
@@ -131,14 +131,14 @@ module _ (L : ℕ) (bs words : List ℕ) (p : 0 < product bs) (w : AllBelow (2 ^
       × (rolls L bs (getD words place 0) ≡ rs)
   first-found from place rs f = (
     hits (place - from) from (omega (arith, f .here)) (f .before),
-    gives-iff L bs p (getD words place 0) (w place (f .here .1)) rs .0 (f .gives) .1,
+    accepts-iff L bs p (getD words place 0) (w place (f .here .1)) rs .0 (f .gives) .1,
   )
     where
       hits : (d at : ℕ) → at + d ≡ place → ((i : ℕ) → at ≤ i → i < place → Rejects L bs (getD words i 0))
           → find (accepted L bs) (drop at words) at ≡ found (record { place = place; word = getD words place 0 })
       hits zero at e b =
           let same : at ≡ place = omega arith in
-          rw same (find-hit (accepted L bs) words place (f .here .1) (gives-iff L bs p (getD words place 0) (w place (f .here .1)) rs .0 (f .gives) .0))
+          rw same (find-hit (accepted L bs) words place (f .here .1) (accepts-iff L bs p (getD words place 0) (w place (f .here .1)) rs .0 (f .gives) .0))
       hits (suc d) at e b =
           let l : at < length words = omega (arith, f .here) in
           find-miss (accepted L bs) words at l (rejects-iff L bs p (getD words at 0) (w at l) .0 (b at (omega arith) (omega arith)))

@@ -17,8 +17,7 @@ use Rattle.answers.specs.Outcome.{shownBehind}
 use Rattle.answers.specs.declared.answer.Behind.{Behind}
 use Rattle.runs.specs.Behind.{behindRefusals, seenBehind}
 use Rattle.promises.specs.Demand1.{Callable, AsRefused, numbersOf}
-use Rattle.promises.specs.Demand2.{Allowed}
-use Rattle.promises.specs.Demand2 as method
+use Rattle.promises.specs.Demand2.{Allowed, Accepts}
 
 abbrev pub Op : Type 0
 Op = List ℕ → List ℕ → Behind
@@ -36,7 +35,7 @@ pub record FullRun (L : ℕ) (bs : List ℕ) (run : Behind) : Type 0 where
 
 abbrev pub Gives : Width → List ℕ → List ℕ → Behind → Type 0
 Gives W bs rs run = Allowed (behindRefusals W bs rs)
-    → FullRun (W .bits) bs run × ((w : ℕ) → w < 2 ^ W .bits → method.Gives (W .bits) bs w rs ↔ ((run .first ≤ w) × (w ≤ run .last)))
+    → FullRun (W .bits) bs run × ((w : ℕ) → w < 2 ^ W .bits → Accepts (W .bits) bs w rs ↔ ((run .first ≤ w) × (w ≤ run .last)))
 
 abbrev pub Demand1 : Width → Op → Type 0
 Demand1 W op = (bs rs : List ℕ) → Callable (W .bits) bs → Callable (W .bits) rs → Refuses W bs rs (op bs rs)

@@ -9,7 +9,7 @@
 --   Allowed refusals                 none of the refusals applies
 --   Unfolded L bs word rs r          the rolls rs and the last r of a word: one roll for each bound, each below it, and product times word
 --                                    = 2^L times the value of the rolls + the last r, as the paper has it
---   Gives L bs word rs               the word gives these rolls, accepted: the last r is at least t = 2^L mod product
+--   Accepts L bs word rs             the word is accepted and gives these rolls: the last r is at least t = 2^L mod product
 --   Rejects L bs word                the word is rejected: the last r is below t
 --   First L bs words from place rs   of the words from a place on, the first that is accepted stands here, and gives these rolls
 --   Follows L plan words from next rs    each batch in turn takes the first accepted word from the place after the one before it, and they
@@ -40,15 +40,15 @@ pub record Unfolded (L : ℕ) (bs : List ℕ) (word : ℕ) (rs : List ℕ) (r : 
   pub rest : r < 2 ^ L
   pub law : product bs * word ≡ 2 ^ L * value bs rs + r
 
-abbrev pub Gives : ℕ → List ℕ → ℕ → List ℕ → Type 0
-Gives L bs word rs = (r : ℕ) × Unfolded L bs word rs r × (2 ^ L % product bs ≤ r)
+abbrev pub Accepts : ℕ → List ℕ → ℕ → List ℕ → Type 0
+Accepts L bs word rs = (r : ℕ) × Unfolded L bs word rs r × (2 ^ L % product bs ≤ r)
 
 abbrev pub Rejects : ℕ → List ℕ → ℕ → Type 0
 Rejects L bs word = (rs : List ℕ) × (r : ℕ) × Unfolded L bs word rs r × (r < 2 ^ L % product bs)
 
 pub record First (L : ℕ) (bs words : List ℕ) (from place : ℕ) (rs : List ℕ) : Type 0 where
   pub here : (from ≤ place) × (place < length words)
-  pub gives : Gives L bs (getD words place 0) rs
+  pub gives : Accepts L bs (getD words place 0) rs
   pub before : (i : ℕ) → from ≤ i → i < place → Rejects L bs (getD words i 0)
 
 abbrev pub Follows : ℕ → List (List ℕ) → List ℕ → ℕ → ℕ → List ℕ → Type 0

@@ -73,6 +73,7 @@ at-range (b ∷ bs) (r ∷ rs) e h =
 
 pub pinned : Pinned
 pinned = record {
+  of-limits = (refl, refl, refl);
   of-words = refl;
   of-rolls = λ L bs p l. record {
     law = key-law L bs;

@@ -32,6 +32,7 @@ use Rattle.rules.specs.Plan.{joined}
 use Rattle.rules.specs.Cut.{cut}
 use Rattle.rules.specs.Shuffle.{shuffleWith, countdown, shufflePlan}
 use Rattle.rules.specs.Reservoir.{countup, reservoir}
+use Rattle.rules.specs.Limits.{maxBatch, maxBounds, maxRecords}
 use Rattle.rules.specs.Order.{isOrder, rollsInto, Reorders, Only}
 
 -- ---- from a word to rolls
@@ -147,6 +148,8 @@ pub record OrderPinned : Type 0 where
 -- ---- the statement
 
 pub record Pinned : Type 0 where
+  -- "bounds in one batch | 1 to 16", "bounds in a list | 0 to 4,096", "records | 0 to 16,384"
+  pub of-limits : (maxBatch ≡ 16) × (maxBounds ≡ 4096) × (maxRecords ≡ 16384)
   -- "Words and bounds are 64-bit unsigned numbers"
   pub of-words : 2 ^ (w64 .bits) ≡ 18446744073709551616
   -- "One batch has bounds b1..bk with product b, at most 2^L."
