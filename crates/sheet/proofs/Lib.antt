@@ -1,3 +1,4 @@
 pub mod OneSheet
+pub mod Pinned
 pub mod Reading
 pub mod Soundness

@@ -1,5 +1,6 @@
 -- Numbers out of the bytes of a sheet, and those of an area. Assumes nothing.
 --
+--   number-none, number-step  a number of no bytes; a number by its first byte and the rest of it
 --   four-read, number-eight   a number by its bytes, and by its halves
 --   getD-entries                the i-th number of an area
 use mathlib.Core.Path.{_≡_, refl, ap, _∙_}
@@ -14,11 +15,11 @@ use Rattle.sheet.specs.Sheet.{little, number, entries}
 
 -- ---- a number
 
-number-none : (at : ℕ) (s : List ℕ) → number 0 at s ≡ 0
+pub number-none : (at : ℕ) (s : List ℕ) → number 0 at s ≡ 0
 unfolding little
 number-none at s = refl
 
-number-step : (size at next : ℕ) (s : List ℕ) → next ≡ at + 1 → at < length s → number (suc size) at s ≡ getD s at 0 + 256 * number size next s
+pub number-step : (size at next : ℕ) (s : List ℕ) → next ≡ at + 1 → at < length s → number (suc size) at s ≡ getD s at 0 + 256 * number size next s
 unfolding little
 number-step size at next s e h = rw (e, add-one at, drop-cons s at 0 h)
 

@@ -1,2 +1,3 @@
 pub mod RunSheet
 pub mod Sheet
+pub mod Pinned

@@ -1,0 +1,59 @@
+-- What pins a draw sheet: sentences that tell its definitions from other definitions of their shape. Each stands under the words of
+-- document 01 that it is of.
+--
+--   Stands size n at s   the number n, of so many bytes, stands at a place of the sheet: byte i of n, the lowest first, at that place + i
+--   Area size at xs s    the numbers xs, each of so many bytes, stand one behind the other from a place of the sheet on, and end within it
+--   Header h s           the six numbers h stand at the places 0, 4, 8, 12, 16, 20
+--   bytes24, numbers24   a header of 24 different bytes, and its numbers
+--   SheetPinned          the statement: the numbers that stand there are those that are read; and with both areas empty a sheet is sound by
+--                        its length and its offsets alone
+use mathlib.Core.Path.{_≡_}
+use mathlib.Core.Logic.{_↔_}
+use mathlib.Core.List.{List, [], _∷_}
+use Prim.Native.Nat.{ℕ, _+_, _*_, _/_, _%_, _^_, _<_, _≤_}
+use lib.Dec.{T}
+use lib.ListN.{length, getD}
+use Rattle.sheet.specs.Sheet.{Numbers, numbers, wordsOf, recordsOf, isSound}
+
+abbrev pub Stands : ℕ → ℕ → ℕ → List ℕ → Type 0
+Stands size n at s = (n < 256 ^ size) × ((i : ℕ) → i < size → getD s (at + i) 0 ≡ n / 256 ^ i % 256)
+
+abbrev pub Area : ℕ → ℕ → List ℕ → List ℕ → Type 0
+Area size at xs s = (at + size * length xs ≤ length s) × ((i : ℕ) → i < length xs → Stands size (getD xs i 0) (at + size * i) s)
+
+pub record Header (h : Numbers) (s : List ℕ) : Type 0 where
+  pub long : 24 ≤ length s
+  pub words : Stands 4 (h .words) 0 s
+  pub wordsAt : Stands 4 (h .wordsAt) 4 s
+  pub records : Stands 4 (h .records) 8 s
+  pub recordsAt : Stands 4 (h .recordsAt) 12 s
+  pub k : Stands 4 (h .k) 16 s
+  pub w : Stands 4 (h .w) 20 s
+
+abbrev pub bytes24 : List ℕ
+bytes24 =
+    1 ∷ 2 ∷ 3 ∷ 4 ∷ 5 ∷ 6 ∷ 7 ∷ 8 ∷ 9 ∷ 10 ∷ 11 ∷ 12 ∷ 13 ∷ 14 ∷ 15 ∷ 16 ∷ 17 ∷ 18 ∷ 19 ∷ 20 ∷ 21 ∷ 22 ∷ 23 ∷ 24 ∷ []
+
+abbrev pub numbers24 : Numbers
+numbers24 = record {
+  words = 67305985;
+  wordsAt = 134678021;
+  records = 202050057;
+  recordsAt = 269422093;
+  k = 336794129;
+  w = 404166165;
+}
+
+pub record SheetPinned : Type 0 where
+  -- "A draw sheet starts with six 32-bit numbers, low byte first: count of words, byte offset of words, count of records, byte offset of
+  -- records, k, w."
+  pub six : (h : Numbers) (s : List ℕ) → Header h s → numbers s ≡ h
+  pub example : numbers bytes24 ≡ numbers24
+  -- "Words take 8 bytes, records 4, low byte first."
+  pub words : (s ws : List ℕ) → length ws ≡ numbers s .words → Area 8 (numbers s .wordsAt) ws s → wordsOf s ≡ ws
+  pub records : (s xs : List ℕ) → length xs ≡ numbers s .records → Area 4 (numbers s .recordsAt) xs s → recordsOf s ≡ xs
+  -- "sheet length in bytes: 24 to 65,535"; "each offset is at least 24, each area ends within the sheet"
+  pub empty : (s : List ℕ) → numbers s .words ≡ 0 → numbers s .records ≡ 0
+      → T (isSound s)
+      ↔ ((24 ≤ length s) × (length s ≤ 65535) × (24 ≤ numbers s .wordsAt) × (numbers s .wordsAt ≤ length s) × (24 ≤ numbers s .recordsAt)
+      × (numbers s .recordsAt ≤ length s))
