@@ -2,11 +2,12 @@
 -- them. Assumes nothing.
 --
 --   decimal-pinned   decimal n is n in decimal
+--   slots-pinned     each slot has its line
 --   output-pinned    the output is as the examples have it, and as its refusals ask
 use mathlib.Core.Path.{_≡_, refl, sym, ap, _∙_}
 use mathlib.Core.Logic.{_⊎_, inl, inr}
 use mathlib.Core.Bool.{Bool, true, false}
-use mathlib.Core.List.{List, [], _∷_, _++_, append-nil}
+use mathlib.Core.List.{List, [], _∷_, _++_, append-nil, append-assoc}
 use Prim.Native.Nat.{ℕ, zero, suc, _+_, _*_, _-_, _/_, _%_, _<_, _≤_}
 use native.Mathlib.Omega.{arith}
 use lib.Dec.{ltb}
@@ -18,16 +19,16 @@ use Rattle.rules.specs.Cut.{cutFrom, cut}
 use Rattle.rules.specs.Reservoir.{countup, reservoir}
 use Rattle.rules.specs.Rolls.{rolls, rest, product}
 use Rattle.rules.proofs.Facts.{or-left, or-right}
-use Rattle.rules.specs.Run.{Run, ran, short, run, find, runFrom, rollsOf, next, rejected}
-use Rattle.answers.specs.Outcome.{Outcome, refused, no, noWord, decide, shown, left}
+use Rattle.rules.specs.Run.{Taken, Run, ran, short, run, find, runFrom, rollsOf, next, rejected}
+use Rattle.answers.specs.Outcome.{Outcome, refused, done, no, noWord, decide, shown, left}
 use Rattle.draws.specs.Sample.{samplePlan}
 use Rattle.sheet.specs.Sheet.{Numbers, numbers, little, entries, wordsOf, Sound}
 use Rattle.sheet.specs.RunSheet.{runSheet, shownDrawn}
 use Rattle.sheet.specs.declared.run.Drawn.{Drawn}
 use Rattle.sheet.proofs.Soundness.{sound-known, sound-false, sheet-refusal, four-only}
 use Rattle.sheet.proofs.OneSheet.{sheet-unsound}
-use Rattle.lines.specs.Text.{digit, digits, decimal, line, refusedLine, firstLine, slotLines, told, room, output}
-use Rattle.lines.specs.Pinned.{spelled, spelledFrom, Spells, DecimalPinned, OutputPinned}
+use Rattle.lines.specs.Text.{digit, digits, decimal, line, drawLine, slotLine, refusedLine, firstLine, slotLines, told, room, output}
+use Rattle.lines.specs.Pinned.{spelled, spelledFrom, Spells, DecimalPinned, SlotsPinned, OutputPinned}
 use Rattle.lines.proofs.Spelling.{decimal-one, decimal-more}
 use Rattle.lines.proofs.Printing.{first-refused}
 
@@ -96,7 +97,29 @@ spells-decimal (suc c) n h = go (ltb n 10) refl (spells-decimal c (n / 10))
 pub decimal-pinned : DecimalPinned
 decimal-pinned n = spells-decimal n n (omega arith)
 
+-- ---- the lines of the slots
+
+lines-behind : (w slot : ℕ) (xs ys : List ℕ) → slotLines w slot (xs ++ ys) ≡ slotLines w slot xs ++ slotLines w (slot + length xs) ys
+unfolding slotLines
+lines-behind w slot [] ys = let e : slot ≡ slot + 0 = omega arith in ap (λ (n : ℕ). slotLines w n ys) e
+lines-behind w slot (x ∷ xs) ys =
+    let e : slot + 1 + length xs ≡ slot + length (x ∷ xs) = omega arith in
+    ap (λ (l : List ℕ). slotLine w slot x ++ l)
+    (lines-behind w (slot + 1) xs ys ∙ ap (λ (n : ℕ). slotLines w (slot + 1) xs ++ slotLines w n ys) e)
+    ∙ sym (append-assoc (slotLine w slot x) (slotLines w (slot + 1) xs) (slotLines w (slot + length (x ∷ xs)) ys))
+
+pub slots-pinned : SlotsPinned
+unfolding slotLines
+slots-pinned = record { one = λ w slot x. append-nil (slotLine w slot x); behind = lines-behind }
+
 -- ---- the output
+
+draw-printed : (s values : List ℕ) (ts : List Taken) → runSheet w64 s room ≡ done values ts
+    → output s
+    ≡ drawLine (numbers s .records) (numbers s .k) (next 0 ts) (rejected 0 ts)
+    ++ slotLines (numbers s .w) 0 (take (numbers s .k) (left (replicate room 0) (done values ts)))
+unfolding output
+draw-printed s values ts e = ap (λ (o : Outcome). told (shownDrawn s o) (left (replicate room 0) o)) e
 
 refusal-printed : (s : List ℕ) (number batch : ℕ) → runSheet w64 s room ≡ refused number batch → output s ≡ refusedLine number batch
 unfolding output slotLines
@@ -142,4 +165,13 @@ longer s = go (ltb 65536 (length s)) refl
 pub output-pinned : OutputPinned
 unfolding output runSheet decide entries little line digits slotLines product rolls rest find runFrom rollsOf next rejected countup reservoir cut cutFrom
 output-pinned =
-    record { example52 = refl; example64 = refl; refusal = refusal-printed; never6 = never-printed; long = longer }
+    record {
+      example0 = refl;
+      example52 = refl;
+      example64 = refl;
+      draw = draw-printed;
+      refusal = refusal-printed;
+      never6 = never-printed;
+      too-long = too-long;
+      long = longer;
+    }
