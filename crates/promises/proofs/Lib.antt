@@ -15,4 +15,6 @@ pub mod Naming
 pub mod Demand3
 pub mod FirstBatch
 pub mod Examples
+pub mod Borders
+pub mod Shown
 pub mod Promises

@@ -6,6 +6,7 @@ use Rattle.rules.proofs.Widths.{good64}
 use Rattle.promises.specs.Promises.{Promises}
 use Rattle.promises.proofs.Batch as batch
 use Rattle.promises.proofs.Behind as behind
+use Rattle.promises.proofs.Borders.{borders}
 use Rattle.promises.proofs.Demand3.{demand3, own-places}
 use Rattle.promises.proofs.Examples.{examples}
 use Rattle.promises.proofs.FirstBatch.{stand-ins3}
@@ -16,6 +17,7 @@ use Rattle.promises.proofs.Order as order
 use Rattle.promises.proofs.Refusing.{first-is-lowest}
 use Rattle.promises.proofs.Sample as sample
 use Rattle.promises.proofs.Sheet as sheet
+use Rattle.promises.proofs.Shown.{shown-so}
 use Rattle.promises.proofs.Shuffle as shuffle
 
 pub promises : Promises
@@ -29,10 +31,12 @@ promises = record {
   run-sheet = sheet.promise;
   lowest = first-is-lowest;
   first-short = first-short 64;
+  shown = shown-so;
   suffice = suffice 64;
   one-outcome = one-outcome 64;
   demand3 = demand3 w64 good64;
   own-places = own-places;
   stand-ins3 = stand-ins3;
   examples = examples;
+  borders = borders;
 }

@@ -10,4 +10,6 @@ pub mod Sheet
 pub mod Demand3
 pub mod FirstBatch
 pub mod Examples
+pub mod Borders
+pub mod Shown
 pub mod Promises

@@ -8,6 +8,7 @@ use Rattle.orders.specs.Order.{seenOrder}
 use Rattle.shuffles.specs.Shuffle.{seenShuffle}
 use Rattle.promises.specs.Batch as batch
 use Rattle.promises.specs.Behind as behind
+use Rattle.promises.specs.Borders.{Borders}
 use Rattle.promises.specs.Demand1.{FirstIsLowest, FirstShort}
 use Rattle.promises.specs.Demand2.{Suffice, OneOutcome}
 use Rattle.promises.specs.Demand3.{Demand3, OwnPlaces}
@@ -17,6 +18,7 @@ use Rattle.promises.specs.List as list
 use Rattle.promises.specs.Order as order
 use Rattle.promises.specs.Sample as sample
 use Rattle.promises.specs.Sheet as sheet
+use Rattle.promises.specs.Shown.{Shown}
 use Rattle.promises.specs.Shuffle as shuffle
 
 pub record Promises : Type 0 where
@@ -30,11 +32,13 @@ pub record Promises : Type 0 where
   -- shared by demands 1 and 2
   pub lowest : FirstIsLowest
   pub first-short : FirstShort 64
+  pub shown : Shown
   pub suffice : Suffice 64
   pub one-outcome : OneOutcome 64
   -- demand 3
   pub demand3 : Demand3 w64 (seenShuffle w64) (seenBehind w64) seenOrder
   pub own-places : OwnPlaces
   pub stand-ins3 : StandIns3
-  -- the starred examples
+  -- the starred examples, and the borders of the table of numbers
   pub examples : Examples
+  pub borders : Borders

@@ -1,0 +1,64 @@
+-- The borders of the table "Numbers for no": beside each figure of document 01 a call that meets it and a call that is one off. Where a call
+-- takes words the start is above their number, so that a call which no lower number refuses is refused by 9.
+--
+--   sheet28 k w   a sheet of 28 bytes, with no word and one record, and these k and w
+--   table         the borders
+--   Borders       the statement: every line is true
+use mathlib.Core.Bool.{Bool}
+use mathlib.Core.List.{List, [], _∷_}
+use Prim.Native.Nat.{ℕ}
+use lib.Dec.{T}
+use lib.ListN.{replicate}
+use Rattle.rules.specs.Width.{w64}
+use Rattle.rolls.specs.Batch.{rollBatch}
+use Rattle.lists.specs.List.{rollList}
+use Rattle.shuffles.specs.Shuffle.{shuffle}
+use Rattle.draws.specs.Sample.{sample}
+use Rattle.runs.specs.Behind.{wordsBehind}
+use Rattle.orders.specs.Order.{rollsBehind}
+use Rattle.sheet.specs.Operations.{runSheet}
+use Rattle.promises.specs.Examples.{refused, all}
+
+abbrev pub sheet28 : ℕ → ℕ → List ℕ
+sheet28 k w =
+    0 ∷ 0 ∷ 0 ∷ 0 ∷ 24 ∷ 0 ∷ 0 ∷ 0 ∷ 1 ∷ 0 ∷ 0 ∷ 0 ∷ 24 ∷ 0 ∷ 0 ∷ 0 ∷ k ∷ 0 ∷ 0 ∷ 0 ∷ w ∷ 0 ∷ 0 ∷ 0 ∷ 7 ∷ 0 ∷ 0 ∷ 0 ∷ []
+
+unfoldable pub table : List Bool
+table =
+    -- bounds in one batch, 1 to 16
+    refused (rollBatch w64 [] 1 []) 2 0
+    ∷ refused (rollBatch w64 [] 1 (replicate 16 1)) 9 0
+    ∷ refused (rollBatch w64 [] 1 (replicate 17 1)) 2 0
+    ∷ refused (wordsBehind w64 (replicate 16 1) []) 7 0
+    ∷ refused (wordsBehind w64 (replicate 17 1) []) 2 0
+    -- start place above the number of words
+    ∷ refused (rollBatch w64 (0 ∷ []) 1 (1 ∷ [])) 10 0
+    ∷ refused (rollBatch w64 (0 ∷ []) 2 (1 ∷ [])) 9 0
+    -- bounds in a list, 0 to 4,096; the lent result list is too short
+    ∷ refused (rollList w64 [] 1 [] 0) 9 0
+    ∷ refused (rollList w64 [] 1 (replicate 4096 1) 4096) 9 0
+    ∷ refused (rollList w64 [] 1 (replicate 4096 1) 4095) 6 0
+    ∷ refused (rollList w64 [] 1 (replicate 4097 1) 4097) 2 0
+    -- records, 0 to 16,384
+    ∷ refused (shuffle w64 [] 1 (replicate 16384 0)) 9 0
+    ∷ refused (shuffle w64 [] 1 (replicate 16385 0)) 2 0
+    ∷ refused (sample w64 [] 1 (replicate 16384 0) 16384 16384) 9 0
+    ∷ refused (sample w64 [] 1 (replicate 16384 0) 16384 16383) 6 0
+    ∷ refused (sample w64 [] 1 (replicate 16385 0) 1 1) 2 0
+    -- sample size k of n records, 1 to n
+    ∷ refused (sample w64 [] 1 (0 ∷ []) 0 1) 3 0
+    ∷ refused (sample w64 [] 1 (0 ∷ []) 2 2) 3 0
+    -- the rolls behind an order: n - 1 of them
+    ∷ refused (rollsBehind (replicate 16384 0) 16382) 6 0
+    ∷ refused (rollsBehind (0 ∷ 0 ∷ 0 ∷ []) 2) 8 0
+    ∷ refused (rollsBehind (replicate 16385 0) 16384) 2 0
+    -- on a sheet: k is 0 or above n, w is above k; no room
+    ∷ refused (runSheet w64 (sheet28 0 0) 1) 3 0
+    ∷ refused (runSheet w64 (sheet28 1 1) 0) 6 0
+    ∷ refused (runSheet w64 (sheet28 1 2) 1) 3 0
+    ∷ refused (runSheet w64 (sheet28 2 0) 2) 3 0
+    ∷ refused (runSheet w64 [] 1) 1 0
+    ∷ []
+
+abbrev pub Borders : Type 0
+Borders = T (all table)
