@@ -10,7 +10,7 @@ use Rattle.draws.specs.Sample.{sample}
 use Rattle.runs.specs.Behind.{wordsBehind}
 use Rattle.orders.specs.Order.{rollsBehind}
 use Rattle.sheet.specs.Sheet.{little}
-use Rattle.sheet.specs.Operations.{runSheet}
+use Rattle.sheet.specs.RunSheet.{runSheet}
 use Rattle.promises.specs.Borders.{table, Borders}
 
 pub borders : Borders

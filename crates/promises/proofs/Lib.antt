@@ -16,5 +16,4 @@ pub mod Demand3
 pub mod FirstBatch
 pub mod Examples
 pub mod Borders
-pub mod Shown
 pub mod Promises

@@ -17,7 +17,6 @@ use Rattle.promises.proofs.Order as order
 use Rattle.promises.proofs.Refusing.{first-is-lowest}
 use Rattle.promises.proofs.Sample as sample
 use Rattle.promises.proofs.Sheet as sheet
-use Rattle.promises.proofs.Shown.{shown-so}
 use Rattle.promises.proofs.Shuffle as shuffle
 
 pub promises : Promises
@@ -31,7 +30,6 @@ promises = record {
   run-sheet = sheet.promise;
   lowest = first-is-lowest;
   first-short = first-short 64;
-  shown = shown-so;
   suffice = suffice 64;
   one-outcome = one-outcome 64;
   demand3 = demand3 w64 good64;

@@ -16,7 +16,7 @@ use Rattle.shuffles.specs.Shuffle.{shuffle}
 use Rattle.draws.specs.Sample.{sample}
 use Rattle.runs.specs.Behind.{wordsBehind}
 use Rattle.orders.specs.Order.{rollsBehind}
-use Rattle.sheet.specs.Operations.{runSheet}
+use Rattle.sheet.specs.RunSheet.{runSheet}
 use Rattle.promises.specs.Examples.{refused, all}
 
 abbrev pub sheet28 : ℕ → ℕ → List ℕ

@@ -18,7 +18,6 @@ use Rattle.promises.specs.List as list
 use Rattle.promises.specs.Order as order
 use Rattle.promises.specs.Sample as sample
 use Rattle.promises.specs.Sheet as sheet
-use Rattle.promises.specs.Shown.{Shown}
 use Rattle.promises.specs.Shuffle as shuffle
 
 pub record Promises : Type 0 where
@@ -32,7 +31,6 @@ pub record Promises : Type 0 where
   -- shared by demands 1 and 2
   pub lowest : FirstIsLowest
   pub first-short : FirstShort 64
-  pub shown : Shown
   pub suffice : Suffice 64
   pub one-outcome : OneOutcome 64
   -- demand 3

@@ -10,8 +10,8 @@ use lib.ListN.{length, getD}
 use lib.Seq.{ext-getD}
 use Rattle.sheet.specs.Sheet.{Numbers, numbers, little, number, entries, Sound}
 use Rattle.sheet.specs.Pinned.{Stands, Area, Header, SheetPinned}
-use Rattle.sheet.proofs.Reading.{number-none, number-step, entries-at}
-use Rattle.sheet.proofs.Soundness.{sound-iff, entries-length}
+use Rattle.sheet.proofs.Reading.{number-none, number-step, getD-entries}
+use Rattle.sheet.proofs.Soundness.{sound-iff, length-entries}
 
 -- ---- a number
 
@@ -53,12 +53,12 @@ six h s v =
 -- ---- an area
 
 area-back : (size at c : ℕ) (s xs : List ℕ) → length xs ≡ c → Area size at xs s → entries size c at s ≡ xs
-area-back size at c s xs e v = ext-getD 0 (entries size c at s) xs (entries-length size c at s ∙ sym e) each
+area-back size at c s xs e v = ext-getD 0 (entries size c at s) xs (length-entries size c at s ∙ sym e) each
   where
     each : (i : ℕ) → i < length (entries size c at s) → getD (entries size c at s) i 0 ≡ getD xs i 0
     each i k =
-        let l : i < c = subst (λ (m : ℕ). i < m) (entries-length size c at s) k in
-        entries-at size c at s i l ∙ read-back size (getD xs i 0) (at + size * i) s (within i (omega arith)) (v .1 i (omega arith))
+        let l : i < c = subst (λ (m : ℕ). i < m) (length-entries size c at s) k in
+        getD-entries size c at s i l ∙ read-back size (getD xs i 0) (at + size * i) s (within i (omega arith)) (v .1 i (omega arith))
       where
         within : (i : ℕ) → i < length xs → at + size * i + size ≤ length s
         within i k = omega (arith, v .0, mul-le-mul-left size k)
@@ -70,6 +70,8 @@ unfolding little
 sheet-pinned = record {
   six = six;
   example = refl;
+  back = λ s next rejected. refl;
+  none = λ s n batch. refl;
   words = λ s ws e v. area-back 8 (numbers s .wordsAt) (numbers s .words) s ws e v;
   records = λ s xs e v. area-back 4 (numbers s .recordsAt) (numbers s .records) s xs e v;
   empty = λ s e f. (

@@ -5,7 +5,7 @@
 --   Area size at xs s    the numbers xs, each of so many bytes, stand one behind the other from a place of the sheet on, and end within it
 --   Header h s           the six numbers h stand at the places 0, 4, 8, 12, 16, 20
 --   bytes24, numbers24   a header of 24 different bytes, and its numbers
---   SheetPinned          the statement: the numbers that stand there are those that are read; and with both areas empty a sheet is sound by
+--   SheetPinned          the statement: the numbers that stand there are those that are read, and come back; and with both areas empty a sheet is sound by
 --                        its length and its offsets alone
 use mathlib.Core.Path.{_≡_}
 use mathlib.Core.Logic.{_↔_}
@@ -13,7 +13,9 @@ use mathlib.Core.List.{List, [], _∷_}
 use Prim.Native.Nat.{ℕ, _+_, _*_, _/_, _%_, _^_, _<_, _≤_}
 use lib.Dec.{T}
 use lib.ListN.{length, getD}
-use Rattle.sheet.specs.Sheet.{Numbers, numbers, wordsOf, recordsOf, isSound}
+use Rattle.answers.specs.Outcome.{refused}
+use Rattle.sheet.specs.RunSheet.{drawnBy, shownDrawn}
+use Rattle.sheet.specs.Sheet.{Numbers, number, numbers, wordsOf, recordsOf, isSound}
 
 abbrev pub Stands : ℕ → ℕ → ℕ → List ℕ → Type 0
 Stands size n at s = (n < 256 ^ size) × ((i : ℕ) → i < size → getD s (at + i) 0 ≡ n / 256 ^ i % 256)
@@ -49,6 +51,22 @@ pub record SheetPinned : Type 0 where
   -- records, k, w."
   pub six : (h : Numbers) (s : List ℕ) → Header h s → numbers s ≡ h
   pub example : numbers bytes24 ≡ numbers24
+  -- "the six numbers come back with it"; on a refusal zeros do
+  pub back : (s : List ℕ) (next rejected : ℕ) → drawnBy s next rejected
+      ≡ record {
+        no = 0;
+        next = next;
+        rejected = rejected;
+        batch = 0;
+        words = number 4 0 s;
+        «words_at» = number 4 4 s;
+        records = number 4 8 s;
+        «records_at» = number 4 12 s;
+        k = number 4 16 s;
+        w = number 4 20 s;
+      }
+  pub none : (s : List ℕ) (n batch : ℕ) → shownDrawn s (refused n batch)
+      ≡ record { no = n; next = 0; rejected = 0; batch = batch; words = 0; «words_at» = 0; records = 0; «records_at» = 0; k = 0; w = 0 }
   -- "Words take 8 bytes, records 4, low byte first."
   pub words : (s ws : List ℕ) → length ws ≡ numbers s .words → Area 8 (numbers s .wordsAt) ws s → wordsOf s ≡ ws
   pub records : (s xs : List ℕ) → length xs ≡ numbers s .records → Area 4 (numbers s .recordsAt) xs s → recordsOf s ≡ xs
