@@ -1,3 +1,2 @@
 pub mod Pinned
 pub mod Printing
-pub mod Spelling

@@ -1,18 +1,15 @@
--- The text is as it is pinned: a number in decimal by going down to its tenth, the output by its refusals, the examples by computing
--- them. Assumes nothing.
+-- The text is as it is pinned: the output by its refusals, the examples by computing them. Assumes nothing.
 --
---   decimal-pinned   decimal n is n in decimal
 --   slots-pinned     each slot has its line
 --   output-pinned    the output is as the examples have it, and as its refusals ask
 use mathlib.Core.Path.{_≡_, refl, sym, ap, _∙_}
-use mathlib.Core.Logic.{_⊎_, inl, inr}
 use mathlib.Core.Bool.{Bool, true, false}
 use mathlib.Core.List.{List, [], _∷_, _++_, append-nil, append-assoc}
-use Prim.Native.Nat.{ℕ, zero, suc, _+_, _*_, _-_, _/_, _%_, _<_, _≤_}
+use Prim.Native.Nat.{ℕ, _+_, _<_, _≤_}
 use native.Mathlib.Omega.{arith}
 use lib.Dec.{ltb}
-use lib.ListN.{length, take, getD, replicate, length-append, List·getD-append}
-use lib.Seq.{getD-append-seam, take-all, length-take-le}
+use lib.ListN.{length, take, replicate}
+use lib.Seq.{take-all, length-take-le}
 use borrow.Author.Tests.{ltb-true, ltb-false, not-false}
 use Rattle.rules.specs.Width.{w64}
 use Rattle.rules.specs.Cut.{cutFrom, cut}
@@ -22,80 +19,15 @@ use Rattle.rules.proofs.Facts.{or-left, or-right}
 use Rattle.rules.specs.Run.{Taken, Run, ran, short, run, find, runFrom, rollsOf, next, rejected}
 use Rattle.answers.specs.Outcome.{Outcome, refused, done, no, noWord, decide, shown, left}
 use Rattle.draws.specs.Sample.{samplePlan}
+use Rattle.spelling.specs.Decimal.{digits}
 use Rattle.sheet.specs.Sheet.{Numbers, numbers, little, entries, wordsOf, Sound}
 use Rattle.sheet.specs.RunSheet.{runSheet, shownDrawn}
 use Rattle.sheet.specs.declared.run.Drawn.{Drawn}
 use Rattle.sheet.proofs.Soundness.{sound-known, sound-false, sheet-refusal, four-only}
 use Rattle.sheet.proofs.OneSheet.{sheet-unsound}
-use Rattle.lines.specs.Text.{digit, digits, decimal, line, drawLine, slotLine, refusedLine, firstLine, slotLines, told, room, output}
-use Rattle.lines.specs.Pinned.{spelled, spelledFrom, Spells, DecimalPinned, SlotsPinned, OutputPinned}
-use Rattle.lines.proofs.Spelling.{decimal-one, decimal-more}
+use Rattle.lines.specs.Text.{line, drawLine, slotLine, refusedLine, firstLine, slotLines, told, room, output}
+use Rattle.lines.specs.Pinned.{SlotsPinned, OutputPinned}
 use Rattle.lines.proofs.Printing.{first-refused}
-
--- ---- a number in decimal
-
-spelled-more : (a : ℕ) (bs : List ℕ) (b : ℕ) → spelledFrom a (bs ++ b ∷ []) ≡ 10 * spelledFrom a bs + (b - 48)
-unfolding spelledFrom
-spelled-more a [] b = refl
-spelled-more a (c ∷ bs) b = spelled-more (10 * a + (c - 48)) bs b
-
-spells-one : (n : ℕ) → n < 10 → Spells n (digit n ∷ [])
-unfolding spelledFrom
-spells-one n h = record { number = omega arith; digit = inside; front = front n }
-  where
-    inside : (i : ℕ) → i < 1 → (48 ≤ getD (digit n ∷ []) i 0) × (getD (digit n ∷ []) i 0 ≤ 57)
-    inside zero k = (omega arith, omega arith)
-    inside (suc i) k = absurd (omega arith)
-
-    front : (m : ℕ) → (digit m ∷ [] ≡ 48 ∷ []) ⊎ (48 < digit m)
-    front zero = inl refl
-    front (suc m) = inr (omega arith)
-
--- what spells a number that is not 0 has a digit in front that is not `0`
-front-spelled : (n : ℕ) (ds : List ℕ) → 0 < n → Spells n ds → 48 < getD ds 0 0
-unfolding spelledFrom
-front-spelled n ds h v = go (v .front)
-  where
-    go : (ds ≡ 48 ∷ []) ⊎ (48 < getD ds 0 0) → 48 < getD ds 0 0
-    go (inl e) = absurd (omega (arith, sym (v .number) ∙ ap spelled e))
-    go (inr l) = l
-
--- a digit behind it changes nothing in front
-front-kept : (ds : List ℕ) (d : ℕ) → 48 < getD ds 0 0 → 48 < getD (ds ++ d ∷ []) 0 0
-front-kept [] d h = absurd (omega arith)
-front-kept (c ∷ ds) d h = h
-
-module _ (n : ℕ) (ds : List ℕ) (h : 10 ≤ n) (v : Spells (n / 10) ds) where
-  abbrev more : List ℕ
-  more = ds ++ digit (n % 10) ∷ []
-
-  digit-more : (i : ℕ) → i < length more → (48 ≤ getD more i 0) × (getD more i 0 ≤ 57)
-  digit-more i k = go (ltb i (length ds)) refl
-    where
-      go : (b : Bool) → ltb i (length ds) ≡ b → (48 ≤ getD more i 0) × (getD more i 0 ≤ 57)
-      go true e = let l : i < length ds = ltb-true _ _ e in rw (List·getD-append ds (digit (n % 10) ∷ []) 0 i l) (v .digit i l)
-      go false e =
-          let l : length ds ≤ i = ltb-false _ _ e in
-          let m : i ≡ length ds = omega (arith, k, length-append ds (digit (n % 10) ∷ [])) in
-          rw (m, getD-append-seam ds (digit (n % 10)) [] 0) (omega arith, omega arith)
-
-  spells-more : Spells n more
-  spells-more = record {
-    number = spelled-more 0 ds (digit (n % 10)) ∙ omega (arith, v .number);
-    digit = digit-more;
-    front = inr (front-kept ds (digit (n % 10)) (front-spelled (n / 10) ds (omega arith) v));
-  }
-
-spells-decimal : (c n : ℕ) → n ≤ c → Spells n (decimal n)
-spells-decimal zero n h = rw (decimal-one n (omega arith)) (spells-one n (omega arith))
-spells-decimal (suc c) n h = go (ltb n 10) refl (spells-decimal c (n / 10))
-  where
-    go : (b : Bool) → ltb n 10 ≡ b → (n / 10 ≤ c → Spells (n / 10) (decimal (n / 10))) → Spells n (decimal n)
-    go true e f = let l : n < 10 = ltb-true _ _ e in rw (decimal-one n l) (spells-one n l)
-    go false e f = let l : 10 ≤ n = ltb-false _ _ e in rw (decimal-more n l) (spells-more n (decimal (n / 10)) l (f (omega arith)))
-
-pub decimal-pinned : DecimalPinned
-decimal-pinned n = spells-decimal n n (omega arith)
 
 -- ---- the lines of the slots
 

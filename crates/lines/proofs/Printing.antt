@@ -25,9 +25,10 @@ use Rattle.rules.proofs.Writing.{drop-next}
 use Rattle.answers.specs.Outcome.{left}
 use Rattle.sheet.specs.RunSheet.{runSheet, shownDrawn}
 use Rattle.sheet.specs.declared.run.Drawn.{Drawn}
-use Rattle.lines.specs.Text.{decimal, line, earlyText, lateText, drawLine, slotLine, refusedLine, firstLine, slotLines, told, room, output}
-use Rattle.lines.specs.Inner.{Written}
-use Rattle.lines.proofs.Spelling.{digit-count, none-yet, next-written, all-written}
+use Rattle.spelling.specs.Decimal.{decimal}
+use Rattle.lines.specs.Text.{line, earlyText, lateText, drawLine, slotLine, refusedLine, firstLine, slotLines, told, room, output}
+use Rattle.spelling.specs.Inner.{Written}
+use Rattle.spelling.proofs.Spelling.{digit-count, none-yet, next-written, all-written}
 
 -- ---- the first line
 

@@ -1,3 +1,2 @@
-pub mod Inner
 pub mod Pinned
 pub mod Text

@@ -1,9 +1,5 @@
 -- What pins the text that is printed: sentences that tell its definitions from other definitions of their shape.
 --
---   spelled bs       the number that the digits bs spell, the first most significant
---   spelledFrom a bs the same, with the digits of a in front
---   Spells n bs      bs is n in decimal: it spells n, by the digits `0` to `9`, and has no `0` in front, unless it is `0`
---   DecimalPinned    decimal n is n in decimal, whatever n is
 --   sheet52          the sheet of 52 bytes of document 01: header 2, 24, 3, 40, 1, 1; words 0, 1; records 101, 205, 309
 --   text52           `draw 3 1 2 1`, line feed, `1 309 early`, line feed
 --   sheet64          a sheet of 64 bytes: header 3, 24, 4, 48, 3, 2; words 2^64 - 1, three times; records 4294967295, 0, 1000000000, 7
@@ -14,31 +10,15 @@
 --                    k slots; a refusal prints its line and nothing else; number 6 is never printed; input longer than 65,535 bytes is
 --                    refused 1; of input longer than 65,536 bytes the first 65,536 decide
 use mathlib.Core.Path.{_≡_}
-use mathlib.Core.Logic.{_⊎_}
 use mathlib.Core.List.{List, [], _∷_, _++_}
-use Prim.Native.Nat.{ℕ, _+_, _*_, _-_, _<_, _≤_}
-use lib.ListN.{length, take, getD, replicate}
+use Prim.Native.Nat.{ℕ, _+_, _<_}
+use lib.ListN.{length, take, replicate}
 use Rattle.rules.specs.Width.{w64}
 use Rattle.rules.specs.Run.{Taken, next, rejected}
 use Rattle.answers.specs.Outcome.{refused, done, left}
 use Rattle.sheet.specs.Sheet.{numbers}
 use Rattle.sheet.specs.RunSheet.{runSheet}
-use Rattle.lines.specs.Text.{decimal, drawLine, slotLine, refusedLine, slotLines, room, output}
-
-unfoldable pub spelledFrom : ℕ → List ℕ → ℕ
-spelledFrom a [] = a
-spelledFrom a (b ∷ bs) = spelledFrom (10 * a + (b - 48)) bs
-
-abbrev pub spelled : List ℕ → ℕ
-spelled bs = spelledFrom 0 bs
-
-pub record Spells (n : ℕ) (bs : List ℕ) : Type 0 where
-  pub number : spelled bs ≡ n
-  pub digit : (i : ℕ) → i < length bs → (48 ≤ getD bs i 0) × (getD bs i 0 ≤ 57)
-  pub front : (bs ≡ 48 ∷ []) ⊎ (48 < getD bs 0 0)
-
-abbrev pub DecimalPinned : Type 0
-DecimalPinned = (n : ℕ) → Spells n (decimal n)
+use Rattle.lines.specs.Text.{drawLine, slotLine, refusedLine, slotLines, room, output}
 
 abbrev pub sheet52 : List ℕ
 sheet52 =

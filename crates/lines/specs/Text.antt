@@ -1,8 +1,5 @@
 -- The text that the draw-sheet program prints, in ASCII.
 --
---   digit d                     the digit d, from 0 to 9
---   digits c n                  the decimal digits of n, which is at most c
---   decimal n                   n in decimal, with no zeros in front; 0 is `0`
 --   line f fs                   the field f and then the fields fs, parted by one blank, and a line feed
 --   drawText, refusedText, earlyText, lateText    the texts `draw`, `refused`, `early`, `late`
 --   drawLine n k used rejected  `draw`, the count of records, k, the words used, the words rejected
@@ -15,26 +12,14 @@
 --   output s                    all that the program prints for the bytes s of a sheet
 use mathlib.Core.Bool.{true, false}
 use mathlib.Core.List.{List, [], _∷_, _++_}
-use Prim.Native.Nat.{ℕ, zero, suc, _+_, _/_, _%_}
+use Prim.Native.Nat.{ℕ, _+_}
 use lib.Dec.{ltb, eqb}
 use lib.ListN.{take, replicate}
 use Rattle.rules.specs.Width.{w64}
 use Rattle.answers.specs.Outcome.{Outcome, left}
+use Rattle.spelling.specs.Decimal.{decimal}
 use Rattle.sheet.specs.RunSheet.{runSheet, shownDrawn}
 use Rattle.sheet.specs.declared.run.Drawn.{Drawn}
-
--- 48 is the code of `0`.
-abbrev pub digit : ℕ → ℕ
-digit d = 48 + d
-
--- The digits of n / 10, which is at most c where n is at most c + 1, and then the last one. Of a number above c no digits are claimed:
--- what stands here is arbitrary.
-unfoldable pub digits : ℕ → ℕ → List ℕ
-digits zero n = digit 0 ∷ []
-digits (suc c) n = elim (ltb n 10) [ true ↦ digit n ∷ [] | false ↦ digits c (n / 10) ++ digit (n % 10) ∷ [] ]
-
-abbrev pub decimal : ℕ → List ℕ
-decimal n = digits n n
 
 -- Fields are parted by one blank (32) and each line ends with a line feed (10).
 unfoldable pub line : List ℕ → List (List ℕ) → List ℕ

@@ -1,12 +1,15 @@
 // The text that the draw-sheet program prints, written into a lent list of bytes.
 use sheet::run::Drawn;
 use sheet::run::run_sheet;
+use spelling::put::put_decimal;
+use spelling::put::put_field;
+use spelling::put::put_text;
 ghost use mathlib.Core.Path.{_≡_};
-ghost use mathlib.Core.List.{_∷_, _++_};
+ghost use mathlib.Core.List.{_++_};
 ghost use Prim.Native.Nat.{_+_, _*_, _≤_, _<_, _^_};
 ghost use lib.ListN.{length, drop};
-ghost use Rattle.lines.specs.Text.{decimal, drawLine, slotLine, refusedLine, firstLine, slotLines, output};
-ghost use Rattle.lines.specs.Inner.{Room, Written};
+ghost use Rattle.lines.specs.Text.{drawLine, slotLine, refusedLine, firstLine, slotLines, output};
+ghost use Rattle.spelling.specs.Inner.{Room, Written};
 
 // The slots that the program lends: no sheet has as many records.
 const SLOTS: usize = 16384;
@@ -14,42 +17,6 @@ const SLOTS: usize = 16384;
 // Room for any output, 376,921 bytes: a first line of at most 89, `draw` and four numbers of at most 20 digits, and for each slot a line
 // of at most 23, its number of at most 5 digits, its record of at most 10, and `early`; with the blanks and line feeds.
 pub const OUTPUT: usize = 89 + 23 * SLOTS;
-
-// Writes the text from a place of the list on, and returns the place after it.
-fn put_text(text: &[u8], out: &mut [u8], at: usize) -> usize
-    requires { ⌜ Room (now out) at (now text) ⌝ }
-    ensures { λ r. ⌜ Written (now (out .entry)) at (now (text .entry)) (now (out .exit)) r ⌝ }
-{
-    let mut i: usize = 0;
-    while i < text.len() {
-        out[at + i] = text[i];
-        i += 1;
-    }
-    at + i
-}
-
-// Writes n in decimal from a place of the list on, and returns the place after it.
-fn put_decimal(n: u64, out: &mut [u8], at: usize) -> usize
-    requires { ⌜ Room (now out) at (decimal n) ⌝ }
-    ensures { λ r. ⌜ Written (now (out .entry)) at (decimal n) (now (out .exit)) r ⌝ }
-{
-    if n < 10 {
-        out[at] = b'0' + n as u8;
-        return at + 1;
-    }
-    let end = put_decimal(n / 10, out, at);
-    out[end] = b'0' + (n % 10) as u8;
-    end + 1
-}
-
-// Writes a blank and then n.
-fn put_field(n: u64, out: &mut [u8], at: usize) -> usize
-    requires { ⌜ Room (now out) at (32 ∷ decimal n) ⌝ }
-    ensures { λ r. ⌜ Written (now (out .entry)) at (32 ∷ decimal n) (now (out .exit)) r ⌝ }
-{
-    out[at] = b' ';
-    put_decimal(n, out, at + 1)
-}
 
 // Writes the line of a draw that was done: `draw`, the count of records, k, the words used, the words rejected.
 fn draw_line(n: u64, k: u64, used: u64, rejected: u64, out: &mut [u8]) -> usize

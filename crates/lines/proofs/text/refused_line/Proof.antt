@@ -1,8 +1,9 @@
 -- `lines::text::refused_line` meets its contract. It turns on what is left of the line after each call. Assumes nothing.
 use mathlib.Core.List.{List, [], _∷_, _++_}
 use Prim.Native.Nat.{ℕ}
-use Rattle.lines.specs.Text.{decimal, line, refusedText, refusedLine}
-use Rattle.lines.proofs.Spelling.{SoFar, none-yet, next-room, next-written, last-room, all-written}
+use Rattle.spelling.specs.Decimal.{decimal}
+use Rattle.lines.specs.Text.{line, refusedText, refusedLine}
+use Rattle.spelling.proofs.Spelling.{SoFar, none-yet, next-room, next-written, last-room, all-written}
 use borrow.Author.Needs.{needs}
 use Rattle.lines.proofs.text.refused_line.Statement.{statement}
 use Rattle.lines.proofs.text.refused_line.Tie as tie

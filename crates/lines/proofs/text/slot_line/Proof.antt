@@ -4,8 +4,9 @@ use mathlib.Core.List.{List, [], _∷_, _++_}
 use Prim.Native.Nat.{ℕ, _+_, _<_, _≤_}
 use lib.Dec.{ltb}
 use borrow.Author.Tests.{lt-ltb, le-ltb}
-use Rattle.lines.specs.Text.{decimal, line, earlyText, lateText, slotLine}
-use Rattle.lines.proofs.Spelling.{SoFar, none-yet, next-room, next-written, last-room, all-written, same-left}
+use Rattle.spelling.specs.Decimal.{decimal}
+use Rattle.lines.specs.Text.{line, earlyText, lateText, slotLine}
+use Rattle.spelling.proofs.Spelling.{SoFar, none-yet, next-room, next-written, last-room, all-written, same-left}
 use borrow.Author.Needs.{needs}
 use Rattle.lines.proofs.text.slot_line.Statement.{statement}
 use Rattle.lines.proofs.text.slot_line.Tie as tie

@@ -5,7 +5,7 @@ use Prim.Native.Nat.{_+_, _-_, _≤_}
 use native.Mathlib.Omega.{arith}
 use lib.ListN.{length, drop, getD}
 use Rattle.lines.specs.Text.{slotLine, slotLines}
-use Rattle.lines.proofs.Spelling.{SoFar, none-yet, next-room, next-written, none-left, same-left, same-list}
+use Rattle.spelling.proofs.Spelling.{SoFar, none-yet, next-room, next-written, none-left, same-left, same-list}
 use Rattle.lines.proofs.Printing.{slots-short, slots-next, slots-none}
 use borrow.Author.Needs.{needs}
 use Rattle.lines.proofs.text.write_slots.Statement.{statement}

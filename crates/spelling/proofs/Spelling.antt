@@ -28,9 +28,9 @@ use lib.ListN.{length, set, length-append, take-append-drop}
 use lib.Seq.{take-length, set-split, paste}
 use borrow.Author.Tests.{lt-ltb, le-ltb, ltb-true, ltb-false}
 use Rattle.rules.proofs.Writing.{drop-more, take-put, drop-put, length-put}
-use Rattle.lines.specs.Text.{digit, digits, decimal}
+use Rattle.spelling.specs.Decimal.{digit, digits, decimal}
 use Rattle.rules.specs.Put.{put}
-use Rattle.lines.specs.Inner.{Room, Written}
+use Rattle.spelling.specs.Inner.{Room, Written}
 
 -- ---- a number in decimal
 

@@ -1,11 +1,11 @@
--- `lines::text::put_field` meets its contract. It turns on one law: a blank and the bytes behind it are put as one. Assumes nothing.
-use Rattle.lines.specs.Text.{decimal}
+-- `spelling::put::put_field` meets its contract. It turns on one law: a blank and the bytes behind it are put as one. Assumes nothing.
+use Rattle.spelling.specs.Decimal.{decimal}
 use native.Mathlib.Omega.{arith}
 use lib.ListN.{length-set}
-use Rattle.lines.proofs.Spelling.{blank-first}
+use Rattle.spelling.proofs.Spelling.{blank-first}
 use borrow.Author.Needs.{needs}
-use Rattle.lines.proofs.text.put_field.Statement.{statement}
-use Rattle.lines.proofs.text.put_field.Tie as tie
+use Rattle.spelling.proofs.put.put_field.Statement.{statement}
+use Rattle.spelling.proofs.put.put_field.Tie as tie
 
 slice-write-out : tie.Need-slice-write-out
 slice-write-out c = search needs

@@ -1,16 +1,16 @@
--- `lines::text::put_decimal` meets its contract. It recurses as the definition does: the digits of n / 10, and then the last one. The
+-- `spelling::put::put_decimal` meets its contract. It recurses as the definition does: the digits of n / 10, and then the last one. The
 -- measure is n. Assumes nothing.
 use Prim.Native.Nat.{ℕ, _<_}
 use native.Mathlib.Omega.{arith}
-use Rattle.lines.proofs.Spelling.{spelled-room, spelled-one, decimal-longer, spelled-more}
+use Rattle.spelling.proofs.Spelling.{spelled-room, spelled-one, decimal-longer, spelled-more}
 use borrow.Author.Needs.{needs}
 use borrow.Fn.Kinds.{In}
 use borrow.Fn.PlainCycle.{Measures, is, falls, and}
-use Rattle.lines.proofs.text.put_decimal.Reads as put-decimal
-use Rattle.lines.proofs.text.put_decimal.Kinds as put-decimal-kinds
-use Rattle.lines.proofs.text.+put_decimal.Lts-put_decimal as put-decimal-lts
-use Rattle.lines.proofs.text.+put_decimal.{statement}
-use Rattle.lines.proofs.text.+put_decimal.Tie.{close}
+use Rattle.spelling.proofs.put.put_decimal.Reads as put-decimal
+use Rattle.spelling.proofs.put.put_decimal.Kinds as put-decimal-kinds
+use Rattle.spelling.proofs.put.+put_decimal.Lts-put_decimal as put-decimal-lts
+use Rattle.spelling.proofs.put.+put_decimal.{statement}
+use Rattle.spelling.proofs.put.+put_decimal.Tie.{close}
 
 abbrev μ-put-decimal : Measures 1 put-decimal-kinds.ps ℕ
 μ-put-decimal κs a = a .0

@@ -1,4 +1,4 @@
--- `lines::text::put_text` meets its contract. The loop's invariant: the first i bytes of the text stand from the place on, and all else
+-- `spelling::put::put_text` meets its contract. The loop's invariant: the first i bytes of the text stand from the place on, and all else
 -- is as it was. The measure is what is left of the text. Assumes nothing.
 use mathlib.Core.Path.{_≡_, refl, ap, _∙_}
 use mathlib.Core.List.{List}
@@ -7,9 +7,9 @@ use native.Mathlib.Numerals.{add-one}
 use lib.ListN.{length, set, getD, length-set}
 use lib.Seq.{paste, paste-zero, paste-suc}
 use borrow.Author.Needs.{needs}
-use Rattle.lines.proofs.Spelling.{pasted}
-use Rattle.lines.proofs.text.put_text.Statement.{statement}
-use Rattle.lines.proofs.text.put_text.Tie as tie
+use Rattle.spelling.proofs.Spelling.{pasted}
+use Rattle.spelling.proofs.put.put_text.Statement.{statement}
+use Rattle.spelling.proofs.put.put_text.Tie as tie
 
 -- the list is as it was, with the first i bytes of the text pasted at the place
 abbrev Inv-loop : tie.InvT-loop

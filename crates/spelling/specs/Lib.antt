@@ -1,0 +1,3 @@
+pub mod Decimal
+pub mod Inner
+pub mod Pinned
