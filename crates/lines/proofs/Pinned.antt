@@ -20,7 +20,8 @@ use Rattle.rules.specs.Run.{Taken, Run, ran, short, run, find, runFrom, rollsOf
 use Rattle.answers.specs.Outcome.{Outcome, refused, done, no, noWord, decide, shown, left}
 use Rattle.draws.specs.Sample.{samplePlan}
 use Rattle.spelling.specs.Decimal.{digits}
-use Rattle.sheet.specs.Sheet.{Numbers, numbers, little, entries, wordsOf, Sound}
+use Rattle.areas.specs.Area.{little, entries}
+use Rattle.sheet.specs.Sheet.{Numbers, numbers, wordsOf, Sound}
 use Rattle.sheet.specs.RunSheet.{runSheet, shownDrawn}
 use Rattle.sheet.specs.declared.run.Drawn.{Drawn}
 use Rattle.sheet.proofs.Soundness.{sound-known, sound-false, sheet-refusal, four-only}

@@ -9,7 +9,7 @@ use Rattle.shuffles.specs.Shuffle.{shuffle}
 use Rattle.draws.specs.Sample.{sample}
 use Rattle.runs.specs.Behind.{wordsBehind}
 use Rattle.orders.specs.Order.{rollsBehind}
-use Rattle.sheet.specs.Sheet.{little}
+use Rattle.areas.specs.Area.{little}
 use Rattle.sheet.specs.RunSheet.{runSheet}
 use Rattle.promises.specs.Borders.{table, Borders}
 

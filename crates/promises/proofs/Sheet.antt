@@ -22,11 +22,13 @@ use Rattle.rules.proofs.Reservoir.{length-sample}
 use Rattle.rules.proofs.Widths.{GoodWidth, good64}
 use Rattle.answers.specs.Outcome.{Refusal, no, noWord, ofWords, outside, left}
 use Rattle.answers.specs.declared.answer.Answer.{Answer}
+use Rattle.areas.specs.Area.{little, number, entries}
+use Rattle.areas.proofs.Reading.{length-entries}
 use Rattle.draws.specs.Sample.{samplePlan, sampled}
-use Rattle.sheet.specs.Sheet.{little, number, numbers, entries, wordsOf, recordsOf, isSound}
+use Rattle.sheet.specs.Sheet.{numbers, wordsOf, recordsOf, isSound}
 use Rattle.sheet.specs.RunSheet.{sheetRefusals, runSheet, drawnBy, shownDrawn, seenSheet}
 use Rattle.sheet.specs.declared.run.Drawn.{Drawn}
-use Rattle.sheet.proofs.Soundness.{sound-known, sound-iff, length-entries, sheet-records}
+use Rattle.sheet.proofs.Soundness.{sound-known, sound-iff, sheet-records}
 use Rattle.promises.specs.Demand1.{firstOf}
 use Rattle.promises.specs.Demand2.{Allowed, ByMethod}
 use Rattle.promises.specs.Sheet.{Op, Bytes, CanMeet, Fits, answerOf, Draws, Demand1, Demand2, Settled, StandIns, Promise}

@@ -1,4 +1,3 @@
 pub mod OneSheet
 pub mod Pinned
-pub mod Reading
 pub mod Soundness

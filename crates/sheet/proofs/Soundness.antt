@@ -4,7 +4,6 @@
 --   sound-false     the test fails a sheet that is not sound
 --   sound-iff       the test is the sentence of document 01, both ways
 --   sound-rest      where all else is as it should be, a sheet is sound if its areas share no byte
---   length-entries  an area has as many entries as its count
 --   sheet-records   a sound sheet has at most 16,377 records
 --   sheet-refusal   a refusal of a sheet has one of the numbers 1, 3, 6 and 10
 --   four-only       none of these is 0, 2 or 9
@@ -15,7 +14,7 @@ use mathlib.Core.Path.{_≡_, refl, sym, ap, _∙_}
 use mathlib.Core.Logic.{_↔_, _⊎_, inl, inr}
 use mathlib.Core.Bool.{Bool, true, false, not, not-eq-not, and-eq-true-iff}
 use mathlib.Core.List.{List, [], _∷_}
-use Prim.Native.Nat.{ℕ, zero, suc, _+_, _<_, _≤_, min, max}
+use Prim.Native.Nat.{ℕ, _<_, _≤_, min, max}
 use native.Mathlib.Omega.{arith}
 use lib.Dec.{T, ltb}
 use lib.Ieee.Bits.{is-true}
@@ -26,8 +25,9 @@ use Rattle.rules.proofs.Facts.{clash, or-left, or-right}
 use Rattle.rules.specs.Run.{Taken, Run, ran, short, run}
 use Rattle.answers.specs.Outcome.{Outcome, refused, done, Refusal, no, noWord, decide}
 use Rattle.answers.proofs.Deciding.{decide-here, decide-past, in-count}
+use Rattle.areas.proofs.Reading.{length-entries}
 use Rattle.draws.specs.Sample.{samplePlan}
-use Rattle.sheet.specs.Sheet.{Numbers, numbers, entries, wordsOf, recordsOf, wordsEnd, recordsEnd, Sound, isSound}
+use Rattle.sheet.specs.Sheet.{Numbers, numbers, wordsOf, recordsOf, wordsEnd, recordsEnd, Sound, isSound}
 use Rattle.sheet.specs.RunSheet.{sheetRefusals, runSheet}
 
 -- ---- the test and the sentence
@@ -91,11 +91,6 @@ module _ (s : List ℕ) where
       rw (t, words .0, words .1, records .0, records .1) (sym (test-left allowed (omega arith, omega arith) (omega arith, omega arith)))
 
 -- ---- what a sound sheet holds
-
-pub length-entries : (size c at : ℕ) (s : List ℕ) → length (entries size c at s) ≡ c
-unfolding entries
-length-entries size zero at s = refl
-length-entries size (suc c) at s = ap suc (length-entries size c (at + size) s)
 
 pub sheet-records : (s : List ℕ) → Sound s → length (recordsOf s) ≤ 16377
 sheet-records s v = rw (length-entries 4 (numbers s .records) (numbers s .recordsAt) s) (omega (arith, v .allowed .1, v .offsets .1, v .within .1))

@@ -1,8 +1,6 @@
 -- What pins a draw sheet: sentences that tell its definitions from other definitions of their shape. Each stands under the words of
 -- document 01 that it is of.
 --
---   Stands size n at s   the number n, of so many bytes, stands at a place of the sheet: byte i of n, the lowest first, at that place + i
---   Area size at xs s    the numbers xs, each of so many bytes, stand one behind the other from a place of the sheet on, and end within it
 --   Header h s           the six numbers h stand at the places 0, 4, 8, 12, 16, 20
 --   bytes24, numbers24   a header of 24 different bytes, and its numbers
 --   SheetPinned          the statement: the numbers that stand there are those that are read, and come back; and with both areas empty a sheet is sound by
@@ -10,18 +8,14 @@
 use mathlib.Core.Path.{_≡_}
 use mathlib.Core.Logic.{_↔_}
 use mathlib.Core.List.{List, [], _∷_}
-use Prim.Native.Nat.{ℕ, _+_, _*_, _/_, _%_, _^_, _<_, _≤_}
+use Prim.Native.Nat.{ℕ, _≤_}
 use lib.Dec.{T}
-use lib.ListN.{length, getD}
+use lib.ListN.{length}
 use Rattle.answers.specs.Outcome.{refused}
+use Rattle.areas.specs.Area.{number}
+use Rattle.areas.specs.Pinned.{Stands, Area}
 use Rattle.sheet.specs.RunSheet.{drawnBy, shownDrawn}
-use Rattle.sheet.specs.Sheet.{Numbers, number, numbers, wordsOf, recordsOf, isSound}
-
-abbrev pub Stands : ℕ → ℕ → ℕ → List ℕ → Type 0
-Stands size n at s = (n < 256 ^ size) × ((i : ℕ) → i < size → getD s (at + i) 0 ≡ n / 256 ^ i % 256)
-
-abbrev pub Area : ℕ → ℕ → List ℕ → List ℕ → Type 0
-Area size at xs s = (at + size * length xs ≤ length s) × ((i : ℕ) → i < length xs → Stands size (getD xs i 0) (at + size * i) s)
+use Rattle.sheet.specs.Sheet.{Numbers, numbers, wordsOf, recordsOf, isSound}
 
 pub record Header (h : Numbers) (s : List ℕ) : Type 0 where
   pub long : 24 ≤ length s

@@ -1,26 +1,17 @@
 -- A draw sheet: its six numbers, its two areas, and when it is sound. A sheet is a list of bytes.
 --
---   little bs              the number whose bytes are bs, low byte first
---   number size at s       the number of so many bytes at a place of the sheet
 --   Numbers, numbers s     the six 32-bit numbers that a sheet starts with
---   entries size c at s    the c numbers of an area, each of so many bytes, from a place on
 --   wordsOf s, recordsOf s the words and the records of a sheet
 --   wordsEnd, recordsEnd   the place after an area's last byte
 --   Sound s                the sheet is sound, as document 01 says it
 --   isSound s              the same, as a test
 use mathlib.Core.Bool.{Bool, not, _&&_}
-use mathlib.Core.List.{List, [], _∷_}
-use Prim.Native.Nat.{ℕ, zero, suc, _+_, _*_, _<_, _≤_, min, max}
+use mathlib.Core.List.{List}
+use Prim.Native.Nat.{ℕ, _+_, _*_, _<_, _≤_, min, max}
 use lib.Dec.{leb, ltb}
-use lib.ListN.{length, take, drop}
+use lib.ListN.{length}
 use Rattle.answers.specs.Outcome.{outside}
-
-unfoldable pub little : List ℕ → ℕ
-little [] = 0
-little (b ∷ bs) = b + 256 * little bs
-
-abbrev pub number : ℕ → ℕ → List ℕ → ℕ
-number size at s = little (take size (drop at s))
+use Rattle.areas.specs.Area.{number, entries}
 
 pub record Numbers : Type 0 where
   pub words : ℕ
@@ -35,10 +26,6 @@ abbrev pub numbers : List ℕ → Numbers
 numbers s =
     let at : ℕ → ℕ = λ i. number 4 i s in
     record { words = at 0; wordsAt = at 4; records = at 8; recordsAt = at 12; k = at 16; w = at 20 }
-
-unfoldable pub entries : ℕ → ℕ → ℕ → List ℕ → List ℕ
-entries size zero at s = []
-entries size (suc c) at s = number size at s ∷ entries size c (at + size) s
 
 -- Words take 8 bytes, records 4.
 abbrev pub wordsOf : List ℕ → List ℕ

@@ -1,9 +1,9 @@
 // Running a draw sheet: whether it is sound, and then the sample that it asks for.
-use super::bytes::read_number;
-use super::bytes::read_records;
-use super::bytes::read_words;
 use answers::answer::Answer;
 use answers::refusal;
+use areas::read::read_number;
+use areas::read::read_records;
+use areas::read::read_words;
 use draws::sample::sample_records;
 ghost use mathlib.Core.Path.{_≡_};
 ghost use mathlib.Core.List.{[]};

@@ -1,10 +1,10 @@
--- `sheet::bytes::read_word` meets its contract. It turns on one law: a number of eight bytes is its low half and 2^32 times its high
+-- `areas::read::read_word` meets its contract. It turns on one law: a number of eight bytes is its low half and 2^32 times its high
 -- half. Assumes nothing.
-use Rattle.sheet.proofs.Reading.{number-eight}
+use Rattle.areas.proofs.Reading.{number-eight}
 use native.Mathlib.Omega.{arith}
 use borrow.Author.Needs.{needs}
-use Rattle.sheet.proofs.bytes.read_word.Statement.{statement}
-use Rattle.sheet.proofs.bytes.read_word.Tie as tie
+use Rattle.areas.proofs.read.read_word.Statement.{statement}
+use Rattle.areas.proofs.read.read_word.Tie as tie
 
 read-number-requires : tie.Need-read-number-requires
 read-number-requires c κs = search needs
@@ -30,7 +30,7 @@ add-result c = search needs
 returns : tie.Need-returns
 returns c =
     let a = c .before .before .before in
-    omega (arith, number-eight (a .args .at) (a .args .sheet .now) (a .pre))
+    omega (arith, number-eight (a .args .at) (a .args .bytes .now) (a .pre))
 
 pub read-word-spec : {M : Type 1} → statement M
 read-word-spec =

@@ -1,23 +1,22 @@
--- `sheet::bytes::read_words` meets its contract. The loop's invariant: the first i words are in the list, and the rest of it is as it
+-- `areas::read::read_words` meets its contract. The loop's invariant: the first i words are in the list, and the rest of it is as it
 -- was. The measure is what is left of the count. Assumes nothing.
 use mathlib.Core.Path.{_∙_, sym}
 use Prim.Native.Nat.{_-_, _<_}
 use borrow.Author.Needs.{needs}
 use Rattle.rules.proofs.Writing.{Written, written-none, written-turn, written-whole}
-use Rattle.sheet.specs.Sheet.{entries}
-use Rattle.sheet.proofs.Soundness.{length-entries}
-use Rattle.sheet.proofs.Reading.{getD-entries}
-use Rattle.sheet.proofs.bytes.read_words.Statement.{statement}
-use Rattle.sheet.proofs.bytes.read_words.Tie as tie
+use Rattle.areas.specs.Area.{entries}
+use Rattle.areas.proofs.Reading.{length-entries, getD-entries}
+use Rattle.areas.proofs.read.read_words.Statement.{statement}
+use Rattle.areas.proofs.read.read_words.Tie as tie
 
 abbrev Inv-loop : tie.InvT-loop
-Inv-loop sheet at count words₀ i₀ words i = Written (entries 8 count at sheet) count words₀ words i
+Inv-loop bytes at count words₀ i₀ words i = Written (entries 8 count at bytes) count words₀ words i
 
 abbrev μ-loop : tie.MeasureT-loop
-μ-loop sheet at count words₀ i₀ words i = count - i
+μ-loop bytes at count words₀ i₀ words i = count - i
 
 loop-holds : tie.Need-loop-holds Inv-loop μ-loop
-loop-holds c = let start = c .before .before in written-none (entries 8 (start .args .count) (start .args .at) (start .args .sheet .now)) _ _
+loop-holds c = let start = c .before .before in written-none (entries 8 (start .args .count) (start .args .at) (start .args .bytes .now)) _ _
 
 mul-read-word : tie.Need-mul-read-word Inv-loop μ-loop
 mul-read-word c = search needs

@@ -1,23 +1,22 @@
--- `sheet::bytes::read_records` meets its contract. The loop's invariant: the first i records are in the list, and the rest of it is as
+-- `areas::read::read_records` meets its contract. The loop's invariant: the first i records are in the list, and the rest of it is as
 -- it was. The measure is what is left of the count. Assumes nothing.
 use mathlib.Core.Path.{_∙_, sym}
 use Prim.Native.Nat.{_-_, _<_}
 use borrow.Author.Needs.{needs}
 use Rattle.rules.proofs.Writing.{Written, written-none, written-turn, written-whole}
-use Rattle.sheet.specs.Sheet.{entries}
-use Rattle.sheet.proofs.Soundness.{length-entries}
-use Rattle.sheet.proofs.Reading.{getD-entries}
-use Rattle.sheet.proofs.bytes.read_records.Statement.{statement}
-use Rattle.sheet.proofs.bytes.read_records.Tie as tie
+use Rattle.areas.specs.Area.{entries}
+use Rattle.areas.proofs.Reading.{length-entries, getD-entries}
+use Rattle.areas.proofs.read.read_records.Statement.{statement}
+use Rattle.areas.proofs.read.read_records.Tie as tie
 
 abbrev Inv-loop : tie.InvT-loop
-Inv-loop sheet at count records₀ i₀ records i = Written (entries 4 count at sheet) count records₀ records i
+Inv-loop bytes at count records₀ i₀ records i = Written (entries 4 count at bytes) count records₀ records i
 
 abbrev μ-loop : tie.MeasureT-loop
-μ-loop sheet at count records₀ i₀ records i = count - i
+μ-loop bytes at count records₀ i₀ records i = count - i
 
 loop-holds : tie.Need-loop-holds Inv-loop μ-loop
-loop-holds c = let start = c .before .before in written-none (entries 4 (start .args .count) (start .args .at) (start .args .sheet .now)) _ _
+loop-holds c = let start = c .before .before in written-none (entries 4 (start .args .count) (start .args .at) (start .args .bytes .now)) _ _
 
 mul-read-number : tie.Need-mul-read-number Inv-loop μ-loop
 mul-read-number c = search needs

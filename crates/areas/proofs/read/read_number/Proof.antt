@@ -1,9 +1,9 @@
--- `sheet::bytes::read_number` meets its contract. It turns on one law: a number of four bytes is the sum of its bytes, each at its
+-- `areas::read::read_number` meets its contract. It turns on one law: a number of four bytes is the sum of its bytes, each at its
 -- weight. Assumes nothing.
-use Rattle.sheet.proofs.Reading.{four-read}
+use Rattle.areas.proofs.Reading.{four-read}
 use borrow.Author.Needs.{needs}
-use Rattle.sheet.proofs.bytes.read_number.Statement.{statement}
-use Rattle.sheet.proofs.bytes.read_number.Tie as tie
+use Rattle.areas.proofs.read.read_number.Statement.{statement}
+use Rattle.areas.proofs.read.read_number.Tie as tie
 
 shared-slice-read-wide : tie.Need-shared-slice-read-wide
 shared-slice-read-wide c = search needs
@@ -59,7 +59,7 @@ add-result-3 c = search needs
 returns : tie.Need-returns
 returns c =
     let start = c .before .before .before .before .before .before .before .before .before in
-    four-read (start .args .at) (start .args .sheet .now) _ _ _ _ (start .pre) (c .before .before .before .before .before .before .wide .ensures .0)
+    four-read (start .args .at) (start .args .bytes .now) _ _ _ _ (start .pre) (c .before .before .before .before .before .before .wide .ensures .0)
     (c .before .before .before .before .wide2 .ensures .0) (c .before .before .wide3 .ensures .0) (c .wide4 .ensures .0)
 
 pub read-number-spec : {M : Type 1} → statement M

@@ -1,8 +1,9 @@
--- Numbers out of the bytes of a sheet, and those of an area. Assumes nothing.
+-- Numbers read from bytes, and those of an area. Assumes nothing.
 --
 --   number-none, number-step  a number of no bytes; a number by its first byte and the rest of it
 --   four-read, number-eight   a number by its bytes, and by its halves
---   getD-entries                the i-th number of an area
+--   length-entries            an area has as many numbers as its count
+--   getD-entries              the i-th number of an area
 use mathlib.Core.Path.{_≡_, refl, ap, _∙_}
 use mathlib.Core.List.{List}
 use Prim.Native.Nat.{ℕ, zero, suc, _+_, _*_, _<_, _≤_}
@@ -11,7 +12,7 @@ use native.Mathlib.Numerals.{add-one}
 use native.Mathlib.Omega.{arith}
 use lib.ListN.{length, getD}
 use lib.Seq.{drop-cons}
-use Rattle.sheet.specs.Sheet.{little, number, entries}
+use Rattle.areas.specs.Area.{little, number, entries}
 
 -- ---- a number
 
@@ -48,7 +49,12 @@ four-read at s b0 b1 b2 b3 h e f g k = rw (number-four at s h, e, f, g, k)
 pub number-eight : (at : ℕ) (s : List ℕ) → at + 8 ≤ length s → number 8 at s ≡ number 4 at s + number 4 (at + 4) s * 4294967296
 number-eight at s h = omega (arith, number-low 4 at s (omega arith), number-four at s (omega arith))
 
--- ---- the entries of an area
+-- ---- the numbers of an area
+
+pub length-entries : (size c at : ℕ) (s : List ℕ) → length (entries size c at s) ≡ c
+unfolding entries
+length-entries size zero at s = refl
+length-entries size (suc c) at s = ap suc (length-entries size c (at + size) s)
 
 pub getD-entries : (size count at : ℕ) (s : List ℕ) (i : ℕ) → i < count → getD (entries size count at s) i 0 ≡ number size (at + size * i) s
 unfolding entries

@@ -1,0 +1,4 @@
+// Numbers in bytes, low byte first, and the numbers of an area.
+//
+// Contracts cite specs/Area: a number of so many bytes at a place, and the numbers that stand one behind the other from a place on.
+pub mod read;
