@@ -1,2 +1,4 @@
+pub mod Laying
 pub mod Pinned
+pub mod Putting
 pub mod Reading

@@ -2,21 +2,18 @@
 --
 --   area-pinned    the statement
 use mathlib.Core.Path.{_≡_, refl, sym, ap, subst, _∙_}
-use mathlib.Core.List.{List}
+use mathlib.Core.List.{List, [], append-nil}
 use Prim.Native.Nat.{ℕ, zero, suc, suc-le-suc, _+_, _*_, _/_, _%_, _^_, _<_, _≤_}
-use native.Mathlib.Nat.{zero-lt-suc, add-zero, div-one, pow-suc, pow-succ', mul-le-mul-left, div-div-eq-div-mul, div-lt-iff-lt-mul}
+use native.Mathlib.Nat.{zero-lt-suc, add-zero, div-one, pow-suc, mul-le-mul-left, div-lt-iff-lt-mul}
 use native.Mathlib.Omega.{arith}
 use lib.ListN.{length, getD}
 use lib.Seq.{ext-getD}
-use Rattle.areas.specs.Area.{number, entries}
+use Rattle.areas.specs.Area.{number, entries, bytesOf, area}
 use Rattle.areas.specs.Pinned.{Stands, Area, AreaPinned}
+use Rattle.areas.proofs.Laying.{byte-up, length-bytes, length-area, stands-at, laid-at}
 use Rattle.areas.proofs.Reading.{number-none, number-step, length-entries, getD-entries}
 
 -- ---- a number
-
--- the higher bytes of n are those of n / 256
-byte-up : (n i : ℕ) → n / 256 ^ suc i % 256 ≡ n / 256 / 256 ^ i % 256
-byte-up n i = ap (λ (x : ℕ). x % 256) (ap (λ (x : ℕ). n / x) (pow-succ' 256 i) ∙ sym (div-div-eq-div-mul n 256 (256 ^ i)))
 
 read-back : (size n at : ℕ) (s : List ℕ) → at + size ≤ length s → Stands size n at s → number size at s ≡ n
 read-back zero n at s h v = omega (arith, number-none at s, v .0)
@@ -50,4 +47,9 @@ area-back size at s xs v = ext-getD 0 (entries size (length xs) at s) xs (length
 -- ---- the statement
 
 pub area-pinned : AreaPinned
-area-pinned = record { one = read-back; all = area-back }
+area-pinned = record {
+  one = read-back;
+  all = area-back;
+  bytes = λ size n. (length-bytes size n, λ h. stands-at size n 0 (bytesOf size n) [] [] h refl (sym (append-nil (bytesOf size n))));
+  laid = λ size xs. (length-area size xs, λ b. laid-at size xs 0 (area size xs) [] [] b refl (sym (append-nil (area size xs))));
+}

@@ -6,7 +6,8 @@
 use answers::answer::Answer;
 use answers::answer::Batch;
 use answers::answer::Behind;
-use sheet::run::Drawn;
+use sheet::read::Drawn;
+use writer::write::Written;
 ghost use mathlib.Core.Path.{_≡_};
 ghost use Rattle.rules.specs.Width.{w64};
 ghost use Rattle.rolls.specs.Batch.{seenBatch};
@@ -15,7 +16,9 @@ ghost use Rattle.shuffles.specs.Shuffle.{seenShuffle};
 ghost use Rattle.draws.specs.Sample.{seenSample};
 ghost use Rattle.runs.specs.Behind.{seenBehind};
 ghost use Rattle.orders.specs.Order.{seenOrder};
+ghost use Rattle.sheet.specs.ReadSheet.{seenRead};
 ghost use Rattle.sheet.specs.RunSheet.{seenSheet};
+ghost use Rattle.writer.specs.WriteSheet.{seenWrite};
 ghost use Rattle.promises.specs.Batch as batch;
 ghost use Rattle.promises.specs.List as list;
 ghost use Rattle.promises.specs.Shuffle as shuffle;
@@ -23,6 +26,8 @@ ghost use Rattle.promises.specs.Sample as sample;
 ghost use Rattle.promises.specs.Behind as behind;
 ghost use Rattle.promises.specs.Order as orderBehind;
 ghost use Rattle.promises.specs.Sheet as sheetRun;
+ghost use Rattle.promises.specs.Read as sheetRead;
+ghost use Rattle.promises.specs.Write as sheetWritten;
 
 #[no_mangle]
 pub extern "C" fn hildrasp_roll_batch(words: &[u64], start: usize, bounds: &[u64]) -> Batch
@@ -94,4 +99,29 @@ pub extern "C" fn hildrasp_run_sheet(sheet: &[u8], slots: &mut [u32]) -> Drawn
     ensures demands { λ r. ⌜ sheetRun.Refuses w64 (now (sheet .entry)) (now (slots .entry)) (r, now (slots .exit)) × sheetRun.Gives w64 (now (sheet .entry)) (now (slots .entry)) (r, now (slots .exit)) ⌝ }
 {
     sheet::run::run_sheet(sheet, slots)
+}
+
+#[no_mangle]
+pub extern "C" fn hildrasp_write_sheet(
+    words: &[u64],
+    records: &[u32],
+    k: usize,
+    w: usize,
+    sheet: &mut [u8],
+) -> Written
+    ensures answer { λ r. ⌜ r ≡ seenWrite (now (words .entry)) (now (records .entry)) k w (now (sheet .entry)) .0 ⌝ }
+    ensures sheet { λ r. ⌜ now (sheet .exit) ≡ seenWrite (now (words .entry)) (now (records .entry)) k w (now (sheet .entry)) .1 ⌝ }
+    ensures demands { λ r. ⌜ sheetWritten.Refuses (now (words .entry)) (now (records .entry)) k w (now (sheet .entry)) (r, now (sheet .exit)) × sheetWritten.Gives (now (words .entry)) (now (records .entry)) k w (now (sheet .entry)) (r, now (sheet .exit)) ⌝ }
+{
+    writer::write::write_sheet(words, records, k, w, sheet)
+}
+
+#[no_mangle]
+pub extern "C" fn hildrasp_read_sheet(sheet: &[u8], words: &mut [u64], records: &mut [u32]) -> Drawn
+    ensures answer { λ r. ⌜ r ≡ seenRead (now (sheet .entry)) (now (words .entry)) (now (records .entry)) .0 ⌝ }
+    ensures words { λ r. ⌜ now (words .exit) ≡ seenRead (now (sheet .entry)) (now (words .entry)) (now (records .entry)) .1 .0 ⌝ }
+    ensures records { λ r. ⌜ now (records .exit) ≡ seenRead (now (sheet .entry)) (now (words .entry)) (now (records .entry)) .1 .1 ⌝ }
+    ensures demands { λ r. ⌜ sheetRead.Refuses (now (sheet .entry)) (now (words .entry)) (now (records .entry)) (r, (now (words .exit), now (records .exit))) × sheetRead.Gives (now (sheet .entry)) (now (words .entry)) (now (records .entry)) (r, (now (words .exit), now (records .exit))) ⌝ }
+{
+    sheet::read::read_sheet(sheet, words, records)
 }

@@ -18,14 +18,15 @@ use Rattle.rules.specs.Rolls.{rolls, rest, product}
 use Rattle.rules.proofs.Facts.{or-left, or-right}
 use Rattle.rules.specs.Run.{Taken, Run, ran, short, run, find, runFrom, rollsOf, next, rejected}
 use Rattle.answers.specs.Outcome.{Outcome, refused, done, no, noWord, decide, shown, left}
-use Rattle.draws.specs.Sample.{samplePlan}
+use Rattle.draws.specs.Sample.{samplePlan, sample}
 use Rattle.spelling.specs.Decimal.{digits}
 use Rattle.areas.specs.Area.{little, entries}
 use Rattle.sheet.specs.Sheet.{Numbers, numbers, wordsOf, Sound}
-use Rattle.sheet.specs.RunSheet.{runSheet, shownDrawn}
-use Rattle.sheet.specs.declared.run.Drawn.{Drawn}
-use Rattle.sheet.proofs.Soundness.{sound-known, sound-false, sheet-refusal, four-only}
-use Rattle.sheet.proofs.OneSheet.{sheet-unsound}
+use Rattle.sheet.specs.ReadSheet.{shownDrawn}
+use Rattle.sheet.specs.RunSheet.{runSheet}
+use Rattle.sheet.specs.declared.read.Drawn.{Drawn}
+use Rattle.sheet.proofs.Running.{sheet-flat, sheet-refusal, four-only, sheet-unsound}
+use Rattle.sheet.proofs.Soundness.{sound-known, sound-false}
 use Rattle.lines.specs.Text.{line, drawLine, slotLine, refusedLine, firstLine, slotLines, told, room, output}
 use Rattle.lines.specs.Pinned.{SlotsPinned, OutputPinned}
 use Rattle.lines.proofs.Printing.{first-refused}
@@ -73,10 +74,9 @@ given6 false false false (short b) o batch e f = absurd (let z : _≡_ {A = ℕ}
 given6 false false false (ran ts) o batch e f = absurd (let z : _≡_ {A = ℕ} 0 6 = sym f ∙ ap (λ (p : Outcome). shown 0 p .no) e in omega arith)
 
 never-printed : (s : List ℕ) (batch : ℕ) → runSheet w64 s room ≡ refused 6 batch → ⊥
-unfolding runSheet
 never-printed s batch e =
     let h : Numbers = numbers s in
-    let (sound, size, small) = given6 _ _ _ (run 64 (samplePlan w64 (h .records) (h .k)) (wordsOf s) 0) _ batch e refl in
+    let (sound, size, small) = given6 _ _ _ (run 64 (samplePlan w64 (h .records) (h .k)) (wordsOf s) 0) _ batch (sym (sheet-flat w64 s room) ∙ e) refl in
     let v : Sound s = sound-known s (not-false _ sound) in
     let l : room < h .k = ltb-true _ _ small in
     let m : h .k ≤ h .records = ltb-false _ _ (or-right (ltb (h .k) 1) _ (or-left _ _ size)) in
@@ -84,7 +84,7 @@ never-printed s batch e =
 
 -- input longer than any sheet is refused by 1
 too-long : (s : List ℕ) → 65535 < length s → output s ≡ refusedLine 1 0
-too-long s h = refusal-printed s 1 0 (sheet-unsound s room (sound-false s (λ v. omega (arith, v .allowed .1))))
+too-long s h = refusal-printed s 1 0 (sheet-unsound w64 s room (sound-false s (λ v. omega (arith, v .allowed .1))))
 
 longer : (s : List ℕ) → output (take 65536 s) ≡ output s
 longer s = go (ltb 65536 (length s)) refl
@@ -96,7 +96,7 @@ longer s = go (ltb 65536 (length s)) refl
     go false e = ap output (take-all 65536 s (ltb-false _ _ e))
 
 pub output-pinned : OutputPinned
-unfolding output runSheet decide entries little line digits slotLines product rolls rest find runFrom rollsOf next rejected countup reservoir cut cutFrom
+unfolding output runSheet sample decide entries little line digits slotLines product rolls rest find runFrom rollsOf next rejected countup reservoir cut cutFrom
 output-pinned =
     record {
       example0 = refl;

@@ -23,8 +23,9 @@ use borrow.Author.Tests.{ne-eqb}
 use Rattle.rules.specs.Width.{w64}
 use Rattle.rules.proofs.Writing.{drop-next}
 use Rattle.answers.specs.Outcome.{left}
-use Rattle.sheet.specs.RunSheet.{runSheet, shownDrawn}
-use Rattle.sheet.specs.declared.run.Drawn.{Drawn}
+use Rattle.sheet.specs.ReadSheet.{shownDrawn}
+use Rattle.sheet.specs.RunSheet.{runSheet}
+use Rattle.sheet.specs.declared.read.Drawn.{Drawn}
 use Rattle.spelling.specs.Decimal.{decimal}
 use Rattle.lines.specs.Text.{line, earlyText, lateText, drawLine, slotLine, refusedLine, firstLine, slotLines, told, room, output}
 use Rattle.spelling.specs.Inner.{Written}

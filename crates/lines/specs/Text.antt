@@ -18,8 +18,9 @@ use lib.ListN.{take, replicate}
 use Rattle.rules.specs.Width.{w64}
 use Rattle.answers.specs.Outcome.{Outcome, left}
 use Rattle.spelling.specs.Decimal.{decimal}
-use Rattle.sheet.specs.RunSheet.{runSheet, shownDrawn}
-use Rattle.sheet.specs.declared.run.Drawn.{Drawn}
+use Rattle.sheet.specs.ReadSheet.{shownDrawn}
+use Rattle.sheet.specs.RunSheet.{runSheet}
+use Rattle.sheet.specs.declared.read.Drawn.{Drawn}
 
 -- Fields are parted by one blank (32) and each line ends with a line feed (10).
 unfoldable pub line : List ℕ → List (List ℕ) → List ℕ

@@ -1,5 +1,5 @@
 // The text that the draw-sheet program prints, written into a lent list of bytes.
-use sheet::run::Drawn;
+use sheet::read::Drawn;
 use sheet::run::run_sheet;
 use spelling::put::put_decimal;
 use spelling::put::put_field;

@@ -9,10 +9,10 @@ use Rattle.shuffles.specs.Shuffle.{shuffle}
 use Rattle.draws.specs.Sample.{sample}
 use Rattle.runs.specs.Behind.{wordsBehind}
 use Rattle.orders.specs.Order.{rollsBehind}
-use Rattle.areas.specs.Area.{little}
+use Rattle.areas.specs.Area.{little, entries}
 use Rattle.sheet.specs.RunSheet.{runSheet}
 use Rattle.promises.specs.Borders.{table, Borders}
 
 pub borders : Borders
-unfolding table product inRange hasZero find runFrom count eachOnce decide rollBatch rollList shuffle sample wordsBehind rollsBehind little runSheet
+unfolding table product inRange hasZero find runFrom count eachOnce decide rollBatch rollList shuffle sample wordsBehind rollsBehind little entries runSheet
 borders = tt

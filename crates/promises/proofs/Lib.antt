@@ -11,6 +11,9 @@ pub mod Sample
 pub mod Behind
 pub mod Order
 pub mod Sheet
+pub mod Read
+pub mod Write
+pub mod RoundTrip
 pub mod Naming
 pub mod Demand3
 pub mod FirstBatch

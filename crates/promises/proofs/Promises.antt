@@ -14,10 +14,13 @@ use Rattle.promises.proofs.FirstShort.{first-short}
 use Rattle.promises.proofs.List as list
 use Rattle.promises.proofs.Method.{suffice, one-outcome}
 use Rattle.promises.proofs.Order as order
+use Rattle.promises.proofs.Read as read
 use Rattle.promises.proofs.Refusing.{first-is-lowest}
+use Rattle.promises.proofs.RoundTrip.{round-trip}
 use Rattle.promises.proofs.Sample as sample
 use Rattle.promises.proofs.Sheet as sheet
 use Rattle.promises.proofs.Shuffle as shuffle
+use Rattle.promises.proofs.Write as write
 
 pub promises : Promises
 promises = record {
@@ -28,6 +31,9 @@ promises = record {
   words-behind = behind.promise;
   rolls-behind = order.promise;
   run-sheet = sheet.promise;
+  write-sheet = write.promise;
+  read-sheet = read.promise;
+  round-trip = round-trip;
   lowest = first-is-lowest;
   first-short = first-short 64;
   suffice = suffice 64;

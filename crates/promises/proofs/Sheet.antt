@@ -1,5 +1,6 @@
 -- Running a draw sheet: a sheet that nothing refuses is drawn as the sample of its words and records. Assumes nothing.
 --
+--   fits       the words of a sheet are below 2^64 and its records below 2^32
 --   promise    the promise, at 64 bits
 use mathlib.Core.Path.{_≡_, refl, sym, ap, _∙_}
 use mathlib.Core.Bool.{Bool, false}
@@ -20,14 +21,16 @@ use Rattle.rules.specs.Width.{Width, w64}
 use Rattle.rules.proofs.Facts.{or-left, or-right}
 use Rattle.rules.proofs.Reservoir.{length-sample}
 use Rattle.rules.proofs.Widths.{GoodWidth, good64}
-use Rattle.answers.specs.Outcome.{Refusal, no, noWord, ofWords, outside, left}
+use Rattle.answers.specs.Outcome.{Outcome, Refusal, no, noWord, ofWords, outside, left}
 use Rattle.answers.specs.declared.answer.Answer.{Answer}
 use Rattle.areas.specs.Area.{little, number, entries}
-use Rattle.areas.proofs.Reading.{length-entries}
 use Rattle.draws.specs.Sample.{samplePlan, sampled}
 use Rattle.sheet.specs.Sheet.{numbers, wordsOf, recordsOf, isSound}
-use Rattle.sheet.specs.RunSheet.{sheetRefusals, runSheet, drawnBy, shownDrawn, seenSheet}
-use Rattle.sheet.specs.declared.run.Drawn.{Drawn}
+use Rattle.sheet.specs.ReadSheet.{drawnBy, shownDrawn}
+use Rattle.sheet.specs.RunSheet.{sheetRefusals, seenSheet}
+use Rattle.sheet.specs.declared.read.Drawn.{Drawn}
+use Rattle.sheet.proofs.Reading.{length-records}
+use Rattle.sheet.proofs.Running.{sheet-flat}
 use Rattle.sheet.proofs.Soundness.{sound-known, sound-iff, sheet-records}
 use Rattle.promises.specs.Demand1.{firstOf}
 use Rattle.promises.specs.Demand2.{Allowed, ByMethod}
@@ -57,7 +60,7 @@ entries-below size zero at s b = below-nil
 entries-below size (suc count) at s b =
     below-cons (number size at s) (entries size count (at + size) s) (little-below size (drop at s) (below-drop at s b)) (entries-below size count (at + size) s b)
 
-fits : Fits
+pub fits : Fits
 fits s b = (entries-below 8 (numbers s .words) (numbers s .wordsAt) s b, entries-below 4 (numbers s .records) (numbers s .recordsAt) s b)
 
 -- ---- the demands
@@ -66,10 +69,9 @@ can-meet : (W : Width) → CanMeet W
 can-meet W s room = ten-last (run (W .bits) (samplePlan W (numbers s .records) (numbers s .k)) (wordsOf s) 0) (1 ∷ 3 ∷ 6 ∷ [])
 
 demand1 : (W : Width) → Demand1 W (seenSheet W)
-unfolding runSheet
 demand1 W s lent b =
     as-refused (λ o. (shownDrawn s o, left lent o)) (λ o. (shownDrawn s o, lent)) (λ (x : Drawn × List ℕ). x .0 .no) (λ n b. refl) (λ n b. refl) _ refl
-    (sheetRefusals W s (length lent)) (seenSheet W s lent) refl
+    (sheetRefusals W s (length lent)) (seenSheet W s lent) (ap (λ (o : Outcome). (shownDrawn s o, left lent o)) (sheet-flat W s (length lent)))
 
 -- a start of 0 is never above the number of words
 from-zero : (L : ℕ) (plan : List (List ℕ)) (words : List ℕ) → Allowed (noWord (run L plan words 0) ∷ []) → Allowed (ofWords L plan words 0)
@@ -86,10 +88,10 @@ module _ (g : GoodWidth w64) (s lent : List ℕ) (a : Allowed (sheetRefusals w64
   plan = samplePlan w64 (numbers s .records) k
 
   count : length xs ≡ numbers s .records
-  count = length-entries 4 (numbers s .records) (numbers s .recordsAt) s
+  count = length-records s
 
   few : numbers s .records ≤ maxRecords
-  few = let v = sound-known s (not-false (isSound s) (allowed-cons _ _ a .0)) in omega (arith, sheet-records s v, count)
+  few = let v = sound-known s (not-false (isSound s) (allowed-cons _ _ a .0)) in omega (arith, sheet-records s v)
 
   size : k ≤ length xs
   size =
@@ -103,9 +105,8 @@ module _ (g : GoodWidth w64) (s lent : List ℕ) (a : Allowed (sheetRefusals w64
   rollable = plan-fits w64 g (numbers s .records) k few .rollable
 
   draws : Bytes s → Draws w64 s lent (seenSheet w64 s lent)
-  unfolding runSheet
   draws b =
-      let ran = allowed-done (sheetRefusals w64 s (length lent)) (sampled w64 (wordsOf s) 0 xs k) a in
+      let ran = sheet-flat w64 s (length lent) ∙ allowed-done (sheetRefusals w64 s (length lent)) (sampled w64 (wordsOf s) 0 xs k) a in
       let n = length-sample xs (rollsOf 64 plan (trace (run 64 plan (wordsOf s) 0))) k size in
       rw (ran, count) (record {
         sample = record { none = (refl, refl); method = by-method 64 plan (wordsOf s) 0 words-left rollable (fits s b .0) _ (rw n refl) };

@@ -7,8 +7,11 @@ pub mod Sample
 pub mod Behind
 pub mod Order
 pub mod Sheet
+pub mod Read
+pub mod Write
 pub mod Demand3
 pub mod FirstBatch
 pub mod Examples
+pub mod RoundTrip
 pub mod Borders
 pub mod Promises

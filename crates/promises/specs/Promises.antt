@@ -16,9 +16,12 @@ use Rattle.promises.specs.Examples.{Examples}
 use Rattle.promises.specs.FirstBatch.{StandIns3}
 use Rattle.promises.specs.List as list
 use Rattle.promises.specs.Order as order
+use Rattle.promises.specs.Read as read
+use Rattle.promises.specs.RoundTrip.{RoundTrip}
 use Rattle.promises.specs.Sample as sample
 use Rattle.promises.specs.Sheet as sheet
 use Rattle.promises.specs.Shuffle as shuffle
+use Rattle.promises.specs.Write as write
 
 pub record Promises : Type 0 where
   pub roll-batch : batch.Promise w64
@@ -28,6 +31,10 @@ pub record Promises : Type 0 where
   pub words-behind : behind.Promise w64
   pub rolls-behind : order.Promise
   pub run-sheet : sheet.Promise w64
+  pub write-sheet : write.Promise
+  pub read-sheet : read.Promise
+  -- a sheet written, read, run and written again
+  pub round-trip : RoundTrip w64
   -- shared by demands 1 and 2
   pub lowest : FirstIsLowest
   pub first-short : FirstShort 64

@@ -24,8 +24,9 @@ use Rattle.answers.specs.declared.answer.Answer.{Answer}
 use Rattle.draws.specs.Sample.{samplePlan}
 use Rattle.sheet.specs.Sheet.{numbers, wordsOf, recordsOf, isSound}
 use Rattle.sheet.specs.Sheet as sheet
-use Rattle.sheet.specs.RunSheet.{sheetRefusals, drawnBy, shownDrawn, seenSheet}
-use Rattle.sheet.specs.declared.run.Drawn.{Drawn}
+use Rattle.sheet.specs.ReadSheet.{drawnBy, shownDrawn}
+use Rattle.sheet.specs.RunSheet.{sheetRefusals, seenSheet}
+use Rattle.sheet.specs.declared.read.Drawn.{Drawn}
 use Rattle.promises.specs.Demand1.{AsRefused, numbersOf}
 use Rattle.promises.specs.Demand2.{Allowed, ByMethod}
 

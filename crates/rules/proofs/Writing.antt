@@ -6,6 +6,7 @@
 --   Written, written-none, written-turn,             the loop that writes values that are known beforehand
 --     written-done, written-whole
 --   take-put, drop-put, length-put                   numbers put at a place
+--   put-none, put-put                                none put, and more put behind those that were
 --   lent                                             a part that was lent on, and written at its front
 --   whole-list                                       values that fill the lent list leave nothing of it
 use mathlib.Core.Path.{_≡_, refl, sym, ap, ap₂, _∙_}
@@ -84,6 +85,20 @@ module _ (out d : List ℕ) (at : ℕ) (h : at + length d ≤ length out) where
       let whole : take (length out - at) (drop at out) ≡ drop at out = take-all (length out - at) (drop at out) (rw length-drop (omega arith)) in
       let none : drop (length out - at) (drop at out) ≡ [] = drop-of-length-le (drop at out) {i = length out - at} (rw length-drop (omega arith)) in
       rw (e, whole, none, drop-drop (length d) at out, append-nil)
+
+-- ---- nothing put, and more behind what was put, where the place behind it is known by an equation
+
+pub put-none : (out : List ℕ) (at : ℕ) → put out at [] ≡ out
+put-none out at = let e : at + 0 ≡ at = omega arith in rw e (take-append-drop at out)
+
+pub put-put : (out : List ℕ) (at next : ℕ) (xs ys : List ℕ) → next ≡ at + length xs → next ≤ length out → put (put out at xs) next ys ≡ put out at (xs ++ ys)
+put-put out at next xs ys k h =
+    let l : at + length xs ≤ length out = omega arith in
+    let e : at + length (xs ++ ys) ≡ at + length xs + length ys = rw length-append (omega arith) in
+    let back = drop-more (put out at xs) out (at + length xs) (length ys) (drop-put out xs at l) in
+    rw (k, e) (ap₂ (λ (f b : List ℕ). f ++ (ys ++ b)) (take-put out xs at l) back ∙ simp append-assoc)
+
+-- ---- a list that is filled
 
 pub whole-list : (values before : List ℕ) → length values ≡ length before → values ≡ values ++ drop (length values) before
 whole-list values before e = sym (ap (λ (l : List ℕ). values ++ l) (drop-of-length-le before {i = length values} (omega arith)) ∙ append-nil values)

@@ -1,3 +1,5 @@
-pub mod OneSheet
+pub mod Drawing
 pub mod Pinned
+pub mod Reading
+pub mod Running
 pub mod Soundness

@@ -1,3 +1,4 @@
+pub mod ReadSheet
 pub mod RunSheet
 pub mod Sheet
 pub mod Pinned

@@ -14,7 +14,7 @@ use lib.ListN.{length}
 use Rattle.answers.specs.Outcome.{refused}
 use Rattle.areas.specs.Area.{number}
 use Rattle.areas.specs.Pinned.{Stands, Area}
-use Rattle.sheet.specs.RunSheet.{drawnBy, shownDrawn}
+use Rattle.sheet.specs.ReadSheet.{drawnBy, shownDrawn}
 use Rattle.sheet.specs.Sheet.{Numbers, numbers, wordsOf, recordsOf, isSound}
 
 pub record Header (h : Numbers) (s : List ℕ) : Type 0 where

@@ -5,7 +5,8 @@
 --   wordsEnd, recordsEnd   the place after an area's last byte
 --   Sound s                the sheet is sound, as document 01 says it
 --   isSound s              the same, as a test
-use mathlib.Core.Bool.{Bool, not, _&&_}
+--   wrongSize n k w        of number 3 on a sheet of n records: k is 0 or above n, or w is above k
+use mathlib.Core.Bool.{Bool, not, _&&_, _||_}
 use mathlib.Core.List.{List}
 use Prim.Native.Nat.{ℕ, _+_, _*_, _<_, _≤_, min, max}
 use lib.Dec.{leb, ltb}
@@ -54,3 +55,6 @@ isSound s =
     let h : Numbers = numbers s in
     not (outside 24 65535 (length s)) && leb 24 (h .wordsAt) && leb 24 (h .recordsAt) && leb (wordsEnd h) (length s)
     && leb (recordsEnd h) (length s) && not (ltb (max (h .wordsAt) (h .recordsAt)) (min (wordsEnd h) (recordsEnd h)))
+
+abbrev pub wrongSize : ℕ → ℕ → ℕ → Bool
+wrongSize n k w = outside 1 n k || ltb k w

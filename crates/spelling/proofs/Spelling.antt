@@ -24,10 +24,10 @@ use native.Mathlib.Nat.{pow-suc}
 use native.Mathlib.Numerals.{add-one}
 use native.Mathlib.Omega.{arith}
 use lib.Dec.{ltb}
-use lib.ListN.{length, set, length-append, take-append-drop}
+use lib.ListN.{length, set, length-append}
 use lib.Seq.{take-length, set-split, paste}
 use borrow.Author.Tests.{lt-ltb, le-ltb, ltb-true, ltb-false}
-use Rattle.rules.proofs.Writing.{drop-more, take-put, drop-put, length-put}
+use Rattle.rules.proofs.Writing.{length-put, put-none, put-put}
 use Rattle.spelling.specs.Decimal.{digit, digits, decimal}
 use Rattle.rules.specs.Put.{put}
 use Rattle.spelling.specs.Inner.{Room, Written}
@@ -79,9 +79,6 @@ digit-count (suc k) n h = go (ltb n 10) refl (digit-count k (n / 10))
 
 -- ---- bytes at a place of a list
 
-put-none : (out : List ℕ) (at : ℕ) → put out at [] ≡ out
-put-none out at = let e : at + 0 ≡ at = omega arith in rw e (take-append-drop at out)
-
 put-first : (out : List ℕ) (at b : ℕ) → at < length out → set out at b ≡ put out at (b ∷ [])
 put-first out at b h = rw (add-one at) (set-split out at b h)
 
@@ -89,16 +86,9 @@ module _ (out : List ℕ) (at : ℕ) (bs : List ℕ) (h : Room out at bs) where
   length-put-bytes : length (put out at bs) ≡ length out
   length-put-bytes = length-put out bs at h
 
-  -- more bytes behind them
-  put-put : (cs : List ℕ) → put (put out at bs) (at + length bs) cs ≡ put out at (bs ++ cs)
-  put-put cs =
-      let e : at + length (bs ++ cs) ≡ at + length bs + length cs = rw length-append (omega arith) in
-      let back = drop-more (put out at bs) out (at + length bs) (length cs) (drop-put out bs at h) in
-      ap₂ (λ (l m : List ℕ). l ++ (cs ++ m)) (take-put out bs at h) back ∙ rw e (simp append-assoc)
-
   -- one byte behind them
   put-one : (b : ℕ) → at + length bs < length out → set (put out at bs) (at + length bs) b ≡ put out at (bs ++ b ∷ [])
-  put-one b l = put-first (put out at bs) (at + length bs) b (rw length-put-bytes l) ∙ put-put (b ∷ [])
+  put-one b l = put-first (put out at bs) (at + length bs) b (rw length-put-bytes l) ∙ put-put out at (at + length bs) bs (b ∷ []) refl h
 
 -- ---- a text, byte by byte: the loop's copy is the kit's `paste`
 
@@ -129,7 +119,7 @@ module _ (n : ℕ) (out : List ℕ) (at : ℕ) (room : Room out at (decimal n)) 
 pub blank-first : (out last : List ℕ) (at to : ℕ) (bs : List ℕ) → Room out at (32 ∷ bs) → Written (set out at 32) (at + 1) bs last to
     → Written out at (32 ∷ bs) last to
 blank-first out last at to bs h e =
-    (omega arith, e .1 ∙ ap (λ (l : List ℕ). put l (at + 1) bs) (put-first out at 32 (omega arith)) ∙ put-put out at (32 ∷ []) (omega arith) bs)
+    (omega arith, e .1 ∙ ap (λ (l : List ℕ). put l (at + 1) bs) (put-first out at 32 (omega arith)) ∙ put-put out at (at + 1) (32 ∷ []) bs refl (omega arith))
 
 -- ---- bytes, part by part
 
@@ -174,7 +164,7 @@ module _ {out₀ : List ℕ} {at₀ : ℕ} {bs : List ℕ} where
             parts = v .parts ∙ sym (append-assoc (v .front) cs rest);
             written = (
               omega (arith, e .0, v .written .0),
-              e .1 ∙ ap₂ (λ (l : List ℕ) (m : ℕ). put l m cs) (v .written .1) (v .written .0) ∙ put-put out₀ at₀ (v .front) (omega arith) cs,
+              e .1 ∙ ap₂ (λ (l : List ℕ) (m : ℕ). put l m cs) (v .written .1) (v .written .0) ∙ put-put out₀ at₀ (at₀ + length (v .front)) (v .front) cs refl (omega arith),
             );
           }
 

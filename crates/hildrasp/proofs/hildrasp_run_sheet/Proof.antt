@@ -4,7 +4,7 @@ use mathlib.Core.List.{List}
 use Prim.Native.Nat.{ℕ}
 use native.Mathlib.Omega.{arith}
 use Rattle.rules.specs.Width.{w64}
-use Rattle.sheet.specs.declared.run.Drawn.{Drawn}
+use Rattle.sheet.specs.declared.read.Drawn.{Drawn}
 use Rattle.promises.specs.Sheet.{Bytes, Refuses, Gives}
 use Rattle.promises.proofs.Sheet.{promise}
 use Rattle.hildrasp.proofs.Facing.{beside}

@@ -5,7 +5,7 @@ use Prim.Native.Nat.{ℕ, _≤_}
 use native.Mathlib.Omega.{arith}
 use lib.ListN.{length, take, length-replicate}
 use lib.Seq.{length-take-le}
-use Rattle.sheet.proofs.OneSheet.{drawn-room}
+use Rattle.sheet.proofs.Running.{drawn-room}
 use Rattle.lines.specs.Text.{told, room, output}
 use Rattle.lines.proofs.Printing.{told-written, output-told}
 use borrow.Author.Needs.{needs}

@@ -1,11 +1,11 @@
--- `sheet::run::share_byte` meets its contract. Each `if` takes the larger start, or the smaller end. Assumes nothing.
+-- `sheet::read::share_byte` meets its contract. Each `if` takes the larger start, or the smaller end. Assumes nothing.
 use mathlib.Core.Path.{_≡_, ap₂}
 use mathlib.Core.Logic.{⊎-elim}
 use Prim.Native.Nat.{min, max}
 use native.Mathlib.Omega.{arith}
 use lib.Dec.{ltb}
-use Rattle.sheet.proofs.run.share_byte.Statement.{statement}
-use Rattle.sheet.proofs.run.share_byte.Tie as tie
+use Rattle.sheet.proofs.read.share_byte.Statement.{statement}
+use Rattle.sheet.proofs.read.share_byte.Tie as tie
 
 returns : tie.Need-returns
 returns c =

@@ -1,4 +1,4 @@
--- `sheet::run::is_sound` meets its contract. Each test that fails contradicts the sentence that says what is sound; where all pass, what
+-- `sheet::read::is_sound` meets its contract. Each test that fails contradicts the sentence that says what is sound; where all pass, what
 -- is left is that the areas share no byte. Assumes nothing.
 use mathlib.Core.Path.{sym}
 use mathlib.Core.List.{List}
@@ -6,8 +6,8 @@ use Prim.Native.Nat.{ℕ, _+_, _*_}
 use native.Mathlib.Omega.{arith}
 use Rattle.sheet.proofs.Soundness.{sound-false, sound-rest}
 use borrow.Author.Needs.{needs}
-use Rattle.sheet.proofs.run.is_sound.Statement.{statement}
-use Rattle.sheet.proofs.run.is_sound.Tie as tie
+use Rattle.sheet.proofs.read.is_sound.Statement.{statement}
+use Rattle.sheet.proofs.read.is_sound.Tie as tie
 
 -- the sheet, from after its numbers were read
 abbrev sheet : tie.After-read-number4 → List ℕ

@@ -1,7 +1,7 @@
--- `sheet::run::done_drawn` meets its contract. Field by field, the numbers are as they were read. Assumes nothing.
+-- `sheet::read::read_numbers` meets its contract. Field by field, the numbers are as they were read. Assumes nothing.
 use borrow.Author.Needs.{needs}
-use Rattle.sheet.proofs.run.done_drawn.Statement.{statement}
-use Rattle.sheet.proofs.run.done_drawn.Tie as tie
+use Rattle.sheet.proofs.read.read_numbers.Statement.{statement}
+use Rattle.sheet.proofs.read.read_numbers.Tie as tie
 
 read-number-requires : tie.Need-read-number-requires
 read-number-requires c κs = search needs
@@ -24,8 +24,8 @@ read-number-requires-6 c κs = search needs
 returns : tie.Need-returns
 returns c = cc
 
-pub done-drawn-spec : {M : Type 1} → statement M
-done-drawn-spec =
+pub read-numbers-spec : {M : Type 1} → statement M
+read-numbers-spec =
     tie.close
     (tie.spec
     read-number-requires
