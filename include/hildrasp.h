@@ -25,7 +25,7 @@ extern "C" {
 /* The numbers for no. The lowest that applies is given. */
 enum {
     HILDRASP_SHEET = 1,   /* the sheet is not sound */
-    HILDRASP_COUNT = 2,   /* bounds or records outside their count */
+    HILDRASP_COUNT = 2,   /* bounds or records outside their count; a sheet to write would pass 65,535 bytes */
     HILDRASP_SAMPLE = 3,  /* k is 0 or above n; on a sheet, w is above k */
     HILDRASP_ZERO = 4,    /* some bound is 0 */
     HILDRASP_PRODUCT = 5, /* product of one batch above 2^64 */
@@ -62,7 +62,7 @@ typedef struct {
     uint64_t last;
 } hildrasp_behind;
 
-/* A draw from a sheet, with the six numbers that the sheet starts with. */
+/* A draw from a sheet, or the reading of one, where next, rejected and batch are 0; with the sheet's six numbers. */
 typedef struct {
     uint64_t no;
     size_t next;
@@ -75,6 +75,14 @@ typedef struct {
     uint32_t k;          /* sample size */
     uint32_t w;          /* count of early reviews */
 } hildrasp_drawn;
+
+/* A sheet that was written: its length. `next` and `rejected` are 0. */
+typedef struct {
+    uint64_t no;
+    size_t next;
+    size_t rejected;
+    size_t length; /* in bytes */
+} hildrasp_written;
 
 /* Rolls one batch of 1 to 16 bounds. Refusals: 2, 4, 5, 9, 10. */
 hildrasp_batch hildrasp_roll_batch(const uint64_t *words, size_t word_count, size_t start,
@@ -104,6 +112,24 @@ hildrasp_answer hildrasp_rolls_behind(const uint32_t *order, size_t order_count,
 
 /* Runs a draw sheet of 24 to 65,535 bytes: the sample from start 0, into the lent list `slots`. Refusals: 1, 3, 6, 10. */
 hildrasp_drawn hildrasp_run_sheet(const uint8_t *sheet, size_t byte_count, uint32_t *slots, size_t room);
+
+/*
+ * Writes a draw sheet into the front of the lent list `sheet`: the six numbers, the words at byte 24, the records
+ * straight after. Bytes past the sheet stay. Whether the words suffice for the draw is not looked at. Refusals: 2, 3,
+ * 6. Cost: linear in the sheet's length, with little stack.
+ */
+hildrasp_written hildrasp_write_sheet(const uint64_t *words, size_t word_count,
+                                      const uint32_t *records, size_t record_count, size_t k, size_t w,
+                                      uint8_t *sheet, size_t room);
+
+/*
+ * Reads a draw sheet of 24 to 65,535 bytes: its words into the front of the lent list `words`, its records into the
+ * front of the lent list `records`. The rest of each list stays. Whether the words suffice for the draw is not looked
+ * at. Refusals: 1, 3, 6 where either list is too short. Cost: linear in the counts of words and records, with little
+ * stack.
+ */
+hildrasp_drawn hildrasp_read_sheet(const uint8_t *sheet, size_t byte_count,
+                                   uint64_t *words, size_t word_room, uint32_t *records, size_t record_room);
 
 #ifdef __cplusplus
 }

@@ -263,6 +263,83 @@ pub fn run_sheet(sheet: &[u8], slots: &mut [u32]) -> Result<Draw, Refusal> {
     }
 }
 
+/// Writes a draw sheet into the front of the lent list `sheet`, as [`run_sheet`] takes it: the six numbers, the words
+/// at byte 24, the records straight after. Bytes past the sheet stay. What comes back is the sheet's length: 24 bytes,
+/// 8 for each word and 4 for each record, at most 65,535.
+///
+/// **Words used:** none; whether they suffice for the draw is not looked at.
+///
+/// **Refusals, in this order:** 2 [`Count`](Refusal::Count) where the sheet would pass 65,535 bytes,
+/// 3 [`Sample`](Refusal::Sample), 6 [`Room`](Refusal::Room). The lent list then stays the same.
+///
+/// **Cost:** linear in the sheet's length.
+///
+/// Under the same rules the answer to the same words, records, k and w never changes.
+///
+/// ```
+/// // One of three records, for an early review: 24 bytes, 16 for the words and 12 for the records.
+/// let mut bytes = [9; 60];
+/// let length = hildrasp::write_sheet(&[0, 1], &[101, 205, 309], 1, 1, &mut bytes)?;
+/// let (sheet, past) = bytes.split_at(length);
+/// assert_eq!(sheet.len(), 52);
+/// assert_eq!(past, [9; 8]);
+///
+/// let mut slots = [0];
+/// let draw = hildrasp::run_sheet(sheet, &mut slots)?;
+/// assert_eq!(slots, [309]);
+/// assert_eq!(draw.used, hildrasp::Used { next: 2, rejected: 1 });
+/// # Ok::<(), hildrasp::Refusal>(())
+/// ```
+pub fn write_sheet(words: &[u64], records: &[u32], k: usize, w: usize, sheet: &mut [u8]) -> Result<usize, Refusal> {
+    let raw::Written { no, length, .. } = raw::write_sheet(words, records, k, w, sheet);
+    match Refusal::given(no, 0) {
+        Some(refusal) => Err(refusal),
+        None => Ok(length),
+    }
+}
+
+/// Reads a draw sheet of 24 to 65,535 bytes, as [`run_sheet`] takes it: its words into the front of the lent list
+/// `words`, its records into the front of the lent list `records`; the rest of each stays. What comes back is its six
+/// numbers.
+///
+/// Whatever is read can be written again by [`write_sheet`]. What was read from a written sheet gives the same bytes; a
+/// sheet with gaps, or with its records first, may differ from its written form.
+///
+/// **Words used:** none; whether they suffice for the draw is not looked at.
+///
+/// **Refusals, in this order:** 1 [`Sheet`](Refusal::Sheet), 3 [`Sample`](Refusal::Sample), 6 [`Room`](Refusal::Room)
+/// where either list is too short. Both lists then stay the same.
+///
+/// **Cost:** linear in the count of words and the count of records.
+///
+/// Under the same rules the answer to the same sheet never changes.
+///
+/// ```
+/// let mut sheet = [0; 52];
+/// hildrasp::write_sheet(&[0, 1], &[101, 205, 309], 1, 1, &mut sheet)?;
+/// let (mut words, mut records) = ([9; 3], [9; 4]);
+/// let numbers = hildrasp::read_sheet(&sheet, &mut words, &mut records)?;
+/// assert_eq!((numbers.words, numbers.words_at), (2, 24));
+/// assert_eq!((numbers.records, numbers.records_at), (3, 40));
+/// assert_eq!((numbers.k, numbers.w), (1, 1));
+/// assert_eq!(words, [0, 1, 9]);
+/// assert_eq!(records, [101, 205, 309, 9]);
+///
+/// // With word 0 alone, which the draw rejects, the sheet is read all the same. Its draw is refused 10.
+/// let mut sheet = [0; 44];
+/// hildrasp::write_sheet(&[0], &[101, 205, 309], 1, 1, &mut sheet)?;
+/// assert_eq!(hildrasp::read_sheet(&sheet, &mut words, &mut records)?.words, 1);
+/// assert_eq!(hildrasp::run_sheet(&sheet, &mut [0]), Err(hildrasp::Refusal::Words { batch: 0 }));
+/// # Ok::<(), hildrasp::Refusal>(())
+/// ```
+pub fn read_sheet(sheet: &[u8], words: &mut [u64], records: &mut [u32]) -> Result<Numbers, Refusal> {
+    let raw::Drawn { no, numbers, .. } = raw::read_sheet(sheet, words, records);
+    match Refusal::given(no, 0) {
+        Some(refusal) => Err(refusal),
+        None => Ok(numbers),
+    }
+}
+
 /// The words that a call used, or its refusal.
 fn used(answer: raw::Answer) -> Result<Used, Refusal> {
     let raw::Answer { no, next, rejected, batch } = answer;

@@ -65,20 +65,34 @@ pub struct Numbers {
     pub w: u32,
 }
 
-/// A draw from a sheet, with the six numbers that the sheet starts with.
+/// A draw from a sheet, or the reading of one, with the six numbers that the sheet starts with.
 #[repr(C)]
 #[derive(Debug, Clone, Copy, PartialEq, Eq)]
 pub struct Drawn {
     /// The number of the refusal, 0 where nothing is refused.
     pub no: u64,
-    /// The place after the last word used.
+    /// The place after the last word used, 0 where the sheet is read.
     pub next: usize,
-    /// The count of rejected words.
+    /// The count of rejected words, 0 where the sheet is read.
     pub rejected: usize,
     /// At number 10, the first batch, from 0, that got no word.
     pub batch: usize,
     /// The six numbers, zeros on a refusal.
     pub numbers: Numbers,
+}
+
+/// A sheet that was written.
+#[repr(C)]
+#[derive(Debug, Clone, Copy, PartialEq, Eq)]
+pub struct Written {
+    /// The number of the refusal, 0 where nothing is refused.
+    pub no: u64,
+    /// Always 0: no word is used.
+    pub next: usize,
+    /// Always 0: no word is used.
+    pub rejected: usize,
+    /// The sheet's length in bytes, 0 on a refusal.
+    pub length: usize,
 }
 
 extern "C" {
@@ -124,6 +138,26 @@ extern "C" {
     fn hildrasp_rolls_behind(order: *const u32, order_count: usize, rolls: *mut u64, room: usize) -> Answer;
 
     fn hildrasp_run_sheet(sheet: *const u8, byte_count: usize, slots: *mut u32, room: usize) -> Drawn;
+
+    fn hildrasp_write_sheet(
+        words: *const u64,
+        word_count: usize,
+        records: *const u32,
+        record_count: usize,
+        k: usize,
+        w: usize,
+        sheet: *mut u8,
+        room: usize,
+    ) -> Written;
+
+    fn hildrasp_read_sheet(
+        sheet: *const u8,
+        byte_count: usize,
+        words: *mut u64,
+        word_room: usize,
+        records: *mut u32,
+        record_room: usize,
+    ) -> Drawn;
 }
 
 // Safety, for every call below: each pointer and the count beside it are those of one slice, which lives through the
@@ -183,4 +217,34 @@ pub fn rolls_behind(order: &[u32], rolls: &mut [u64]) -> Answer {
 /// Runs a draw sheet, with its sample in the lent list `slots`.
 pub fn run_sheet(sheet: &[u8], slots: &mut [u32]) -> Drawn {
     unsafe { hildrasp_run_sheet(sheet.as_ptr(), sheet.len(), slots.as_mut_ptr(), slots.len()) }
+}
+
+/// Writes a draw sheet into the lent list `sheet`.
+pub fn write_sheet(words: &[u64], records: &[u32], k: usize, w: usize, sheet: &mut [u8]) -> Written {
+    unsafe {
+        hildrasp_write_sheet(
+            words.as_ptr(),
+            words.len(),
+            records.as_ptr(),
+            records.len(),
+            k,
+            w,
+            sheet.as_mut_ptr(),
+            sheet.len(),
+        )
+    }
+}
+
+/// Reads a draw sheet into the lent lists `words` and `records`.
+pub fn read_sheet(sheet: &[u8], words: &mut [u64], records: &mut [u32]) -> Drawn {
+    unsafe {
+        hildrasp_read_sheet(
+            sheet.as_ptr(),
+            sheet.len(),
+            words.as_mut_ptr(),
+            words.len(),
+            records.as_mut_ptr(),
+            records.len(),
+        )
+    }
 }

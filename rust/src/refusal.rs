@@ -8,7 +8,7 @@ use std::fmt;
 pub enum Refusal {
     /// 1: the sheet is not sound.
     Sheet,
-    /// 2: bounds or records outside their count.
+    /// 2: bounds or records outside their count; a sheet to write would pass 65,535 bytes.
     Count,
     /// 3: k is 0 or above n; on a sheet, w is above k.
     Sample,
@@ -79,7 +79,7 @@ impl fmt::Display for Refusal {
     fn fmt(&self, f: &mut fmt::Formatter<'_>) -> fmt::Result {
         let given_when = match self {
             Refusal::Sheet => "the sheet is not sound",
-            Refusal::Count => "bounds or records outside their count",
+            Refusal::Count => "bounds or records outside their count, or a sheet to write would pass 65,535 bytes",
             Refusal::Sample => "k is 0 or above n, or w is above k",
             Refusal::Zero => "some bound is 0",
             Refusal::Product => "product of one batch above 2^64",

@@ -1,4 +1,4 @@
-//! The oracle: the operations again, in plain Rust with 128-bit arithmetic, written from document 01 alone.
+//! The oracle: the operations again, in plain Rust with 128-bit arithmetic, written from documents 01 and 02 alone.
 //!
 //! An operation is its refusals in order, its plan, the run of the plan over the words, and a reading of the rolls.
 //! The oracle calls nothing of the proved library; the two have only the shape of their answers in common.
@@ -11,7 +11,7 @@ pub mod second;
 pub mod sheet;
 pub mod word;
 
-use crate::raw::{Answer, Batch, Behind, Drawn, Numbers};
+use crate::raw::{Answer, Batch, Behind, Drawn, Numbers, Written};
 use crate::refusal::Refusal;
 use plan::{cut, MAX_BATCH};
 use run::run;
@@ -175,10 +175,57 @@ pub fn run_sheet(sheet: &[u8], lent: &mut [u32]) -> Drawn {
 }
 
 fn drawn(sheet: &[u8], room: usize) -> Result<(Numbers, Done<u32>), Refusal> {
+    let (numbers, words, records) = contents(sheet)?;
+    let done = sampled(&words, 0, &records, numbers.k as usize, room)?;
+    Ok((numbers, done))
+}
+
+/// The six numbers, the words and the records of a sheet that is sound and asks for a sample that there is.
+fn contents(sheet: &[u8]) -> Result<(Numbers, Vec<u64>, Vec<u32>), Refusal> {
     refuse(&[(Refusal::Sheet, !sheet::is_sound(sheet))])?;
     let (numbers, words, records) = sheet::contents(sheet);
-    let k = numbers.k as usize;
-    refuse(&[(Refusal::Sample, k == 0 || k > records.len() || numbers.w > numbers.k), (Refusal::Room, room < k)])?;
-    let done = sampled(&words, 0, &records, k, room)?;
-    Ok((numbers, done))
+    refuse(&[(Refusal::Sample, !is_allowed(numbers.k as usize, numbers.w as usize, records.len()))])?;
+    Ok((numbers, words, records))
+}
+
+/// Whether k and w are allowed on a sheet with n records.
+fn is_allowed(k: usize, w: usize, n: usize) -> bool {
+    1 <= k && k <= n && w <= k
+}
+
+/// Reads a draw sheet into the lent lists.
+pub fn read_sheet(sheet: &[u8], lent_words: &mut [u64], lent_records: &mut [u32]) -> Drawn {
+    let (no, numbers) = match read(sheet, lent_words.len(), lent_records.len()) {
+        Ok((numbers, words, records)) => {
+            lent_words[..words.len()].copy_from_slice(&words);
+            lent_records[..records.len()].copy_from_slice(&records);
+            (0, numbers)
+        }
+        Err(refusal) => (refusal.number(), Numbers::default()),
+    };
+    Drawn { no, next: 0, rejected: 0, batch: 0, numbers }
+}
+
+fn read(sheet: &[u8], word_room: usize, record_room: usize) -> Result<(Numbers, Vec<u64>, Vec<u32>), Refusal> {
+    let (numbers, words, records) = contents(sheet)?;
+    refuse(&[(Refusal::Room, word_room < words.len() || record_room < records.len())])?;
+    Ok((numbers, words, records))
+}
+
+/// Writes a draw sheet into the lent list.
+pub fn write_sheet(words: &[u64], records: &[u32], k: usize, w: usize, lent: &mut [u8]) -> Written {
+    let outcome = written(words, records, k, w, lent.len());
+    leave(&outcome, lent);
+    let Answer { no, next, rejected, .. } = shown(0, &outcome);
+    Written { no, next, rejected, length: outcome.map_or(0, |done| done.values.len()) }
+}
+
+fn written(words: &[u64], records: &[u32], k: usize, w: usize, room: usize) -> Outcome<u8> {
+    let length = sheet::length(words.len(), records.len());
+    refuse(&[
+        (Refusal::Count, length > sheet::MAX_SHEET as u128),
+        (Refusal::Sample, !is_allowed(k, w, records.len())),
+        (Refusal::Room, (room as u128) < length),
+    ])?;
+    Ok(Done { values: sheet::written(words, records, k, w), next: 0, rejected: 0 })
 }

@@ -1,8 +1,8 @@
 //! The checked examples of document 01, with the values that stand there.
 
 use crate::support::{
-    batch_refused, behind, done, refused, roll_batch, roll_list, rolled, rolls_behind, run_sheet, sample, shuffle,
-    words_behind, Lent,
+    batch_refused, behind, done, read_sheet, refused, roll_batch, roll_list, rolled, rolls_behind, run_sheet, sample,
+    sheet_read, sheet_written, shuffle, words_behind, write_sheet, Lent,
 };
 use crate::{program, sheets};
 use hildrasp::oracle::{plan::cut, word};
@@ -114,6 +114,20 @@ fn the_sheet_of_52_bytes_draws_record_309() {
     let drawn = Drawn { no: 0, next: 2, rejected: 1, batch: 0, numbers };
     assert_eq!(sheet.len(), 52);
     assert_eq!(run_sheet(&sheet, 2), (drawn, Lent::holding(2, &[309])));
+}
+
+#[test]
+fn the_sheet_of_52_bytes_is_written_from_its_words_and_records_and_read_back() {
+    let (words, records) = ([0, 1], [101, 205, 309]);
+    let sheet = [
+        2, 0, 0, 0, 24, 0, 0, 0, 3, 0, 0, 0, 40, 0, 0, 0, 1, 0, 0, 0, 1, 0, 0, 0, // six numbers
+        0, 0, 0, 0, 0, 0, 0, 0, 1, 0, 0, 0, 0, 0, 0, 0, // words
+        101, 0, 0, 0, 205, 0, 0, 0, 53, 1, 0, 0, // records
+    ];
+    assert_eq!(write_sheet(&words, &records, 1, 1, 60), (sheet_written(52), Lent::holding(60, &sheet)));
+    let numbers = Numbers { words: 2, words_at: 24, records: 3, records_at: 40, k: 1, w: 1 };
+    let read = (sheet_read(numbers), Lent::holding(3, &words), Lent::holding(5, &records));
+    assert_eq!(read_sheet(&sheet, [3, 5]), read);
 }
 
 #[test]

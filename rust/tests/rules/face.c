@@ -1,6 +1,6 @@
 /*
  * A C program over include/hildrasp.h: one call of each function, on an example of document 01; refusals with the lists
- * that they must leave alone; and empty lists lent as null pointers.
+ * that they must leave alone; empty lists lent as null pointers; and lists as long as 32 bits can count bytes.
  */
 #include <hildrasp.h>
 #include <stdio.h>
@@ -26,6 +26,8 @@ typedef struct {
     hildrasp_answer sampled[3];
     hildrasp_answer order[2];
     hildrasp_drawn drawn[2];
+    hildrasp_written written[3];
+    hildrasp_drawn read[4];
 } answers;
 
 static answers with_empty_lists(void *empty, const uint8_t sheet[52])
@@ -33,6 +35,8 @@ static answers with_empty_lists(void *empty, const uint8_t sheet[52])
     const uint64_t words[2] = {0, 1}, bounds[2] = {2, 6};
     uint64_t rolls[2] = {0, 0};
     uint32_t records[3] = {1, 2, 0}, slots[1];
+    uint8_t without_words[36], bytes[52];
+    hildrasp_write_sheet(words, 0, records, 3, 1, 1, without_words, 36);
     return (answers){
         .batch = {hildrasp_roll_batch(empty, 0, 0, bounds, 2), hildrasp_roll_batch(words, 2, 0, empty, 0)},
         .list = {hildrasp_roll_list(empty, 0, 0, bounds, 2, rolls, 2),
@@ -45,7 +49,63 @@ static answers with_empty_lists(void *empty, const uint8_t sheet[52])
                     hildrasp_sample(words, 2, 0, records, 3, 1, empty, 0)},
         .order = {hildrasp_rolls_behind(empty, 0, rolls, 2), hildrasp_rolls_behind(records, 3, empty, 0)},
         .drawn = {hildrasp_run_sheet(empty, 0, slots, 1), hildrasp_run_sheet(sheet, 52, empty, 0)},
+        .written = {hildrasp_write_sheet(empty, 0, records, 3, 1, 1, bytes, 52),
+                    hildrasp_write_sheet(words, 2, empty, 0, 1, 1, bytes, 52),
+                    hildrasp_write_sheet(words, 2, records, 3, 1, 1, empty, 0)},
+        .read = {hildrasp_read_sheet(empty, 0, rolls, 2, records, 3),
+                 hildrasp_read_sheet(sheet, 52, empty, 0, records, 3),
+                 hildrasp_read_sheet(without_words, 36, empty, 0, records, 3),
+                 hildrasp_read_sheet(sheet, 52, rolls, 2, empty, 0)},
     };
+}
+
+/* The sheet of document 01 written from its words and records, and read back. */
+static void is_written_and_read(const uint8_t sheet[52])
+{
+    const uint64_t words[2] = {0, 1};
+    const uint32_t records[3] = {101, 205, 309};
+    uint8_t bytes[54];
+    memset(bytes, 9, 54);
+    hildrasp_written written = hildrasp_write_sheet(words, 2, records, 3, 1, 1, bytes, 51);
+    HOLDS(written.no == HILDRASP_ROOM && written.next == 0 && written.rejected == 0 && written.length == 0);
+    for (int place = 0; place < 54; place++)
+        HOLDS(bytes[place] == 9);
+    written = hildrasp_write_sheet(words, 2, records, 3, 1, 1, bytes, 54);
+    HOLDS(written.no == 0 && written.next == 0 && written.rejected == 0 && written.length == 52);
+    HOLDS(memcmp(bytes, sheet, 52) == 0 && bytes[52] == 9 && bytes[53] == 9);
+
+    uint64_t words_read[3] = {9, 9, 9};
+    uint32_t records_read[4] = {9, 9, 9, 9};
+    hildrasp_drawn read = hildrasp_read_sheet(sheet, 52, words_read, 1, records_read, 4);
+    HOLDS(read.no == HILDRASP_ROOM && read.words == 0 && read.k == 0 && words_read[0] == 9 && records_read[0] == 9);
+    read = hildrasp_read_sheet(sheet, 52, words_read, 3, records_read, 4);
+    HOLDS(read.no == 0 && read.next == 0 && read.rejected == 0 && read.batch == 0);
+    HOLDS(read.words == 2 && read.words_at == 24 && read.records == 3 && read.records_at == 40);
+    HOLDS(read.k == 1 && read.w == 1 && words_read[0] == 0 && words_read[1] == 1 && words_read[2] == 9);
+    HOLDS(memcmp(records_read, records, sizeof records) == 0 && records_read[3] == 9);
+}
+
+/* Writing is refused 2 for these counts of words and records, both lists in the same zeros, which are not looked at. */
+static void are_too_many(const void *zeros, size_t word_count, size_t record_count)
+{
+    uint8_t bytes[40];
+    memset(bytes, 9, 40);
+    hildrasp_written written = hildrasp_write_sheet(zeros, word_count, zeros, record_count, 1, 1, bytes, 40);
+    HOLDS(written.no == HILDRASP_COUNT && written.next == 0 && written.rejected == 0 && written.length == 0);
+    for (int place = 0; place < 40; place++)
+        HOLDS(bytes[place] == 9);
+}
+
+/* With wrap at 32 bits these sheets have 28, 32 and 24 bytes. A machine that lends no 4 GiB has no such lists. */
+static void lists_of_4_gib_are_too_long(void)
+{
+    void *zeros = calloc((size_t)1 << 30, 4);
+    if (zeros != NULL) {
+        are_too_many(zeros, (size_t)1 << 29, 1);
+        are_too_many(zeros, 1, (size_t)1 << 30);
+        are_too_many(zeros, (size_t)1 << 28, (size_t)1 << 29);
+    }
+    free(zeros);
 }
 
 int main(void)
@@ -104,6 +164,9 @@ int main(void)
     HOLDS(drawn.k == 1 && drawn.w == 1 && slots[0] == 309 && slots[1] == 9);
     drawn = hildrasp_run_sheet(sheet, 51, slots, 2);
     HOLDS(drawn.no == HILDRASP_SHEET && drawn.words == 0 && drawn.k == 0 && slots[0] == 309);
+
+    is_written_and_read(sheet);
+    lists_of_4_gib_are_too_long();
 
     uint64_t place = 9;
     answers lent = with_empty_lists(&place, sheet), null = with_empty_lists(NULL, sheet);

@@ -2,7 +2,10 @@
 
 use crate::sheets;
 use crate::support::built_program;
-use hildrasp::{roll_batch, roll_list, rolls_behind, run_sheet, sample, shuffle, words_behind, Refusal, Used};
+use hildrasp::{
+    read_sheet, roll_batch, roll_list, rolls_behind, run_sheet, sample, shuffle, words_behind, write_sheet, Refusal,
+    Used,
+};
 use std::env;
 use std::path::Path;
 use std::process::Command;
@@ -84,6 +87,22 @@ fn a_sheet_can_meet_1_3_6_10() {
     assert_eq!(run_sheet(&sheet(&[0, 1], 1, 2), &mut [0]), Err(Refusal::Sample));
     assert_eq!(run_sheet(&sheet(&[0, 1], 1, 1), &mut []), Err(Refusal::Room));
     assert_eq!(run_sheet(&sheet(&[0], 1, 1), &mut [0]), Err(Refusal::Words { batch: 0 }));
+}
+
+#[test]
+fn writing_a_sheet_can_meet_2_3_6() {
+    assert_eq!(write_sheet(&[], &[5; 16_378], 1, 1, &mut [0; 65_536]), Err(Refusal::Count));
+    assert_eq!(write_sheet(&[0, 1], &[101, 205, 309], 1, 2, &mut [0; 52]), Err(Refusal::Sample));
+    assert_eq!(write_sheet(&[0, 1], &[101, 205, 309], 1, 1, &mut [0; 51]), Err(Refusal::Room));
+}
+
+#[test]
+fn reading_a_sheet_can_meet_1_3_6() {
+    let sheet = |k, w| sheets::laid_out(&[0, 1], &[101, 205, 309], k, w, [0; 3], false);
+    assert_eq!(read_sheet(&[0; 23], &mut [0; 2], &mut [0; 3]), Err(Refusal::Sheet));
+    assert_eq!(read_sheet(&sheet(1, 2), &mut [0; 2], &mut [0; 3]), Err(Refusal::Sample));
+    assert_eq!(read_sheet(&sheet(1, 1), &mut [0; 1], &mut [0; 3]), Err(Refusal::Room));
+    assert_eq!(read_sheet(&sheet(1, 1), &mut [0; 2], &mut [0; 2]), Err(Refusal::Room));
 }
 
 #[test]

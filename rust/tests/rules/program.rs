@@ -1,6 +1,6 @@
 //! The draw-sheet program on standard input: what it prints, byte for byte.
 
-use crate::sheets::{self, laid_out};
+use crate::sheets::{self, by_the_library, laid_out};
 use crate::support::{brief, built_program, cases, in_place, Generator};
 use hildrasp::oracle::sheet::printed;
 use std::fs::{self, File};
@@ -138,6 +138,20 @@ fn a_sheet_with_any_byte_damaged_is_answered_as_by_the_oracle() {
             agrees(&other);
         }
     }
+}
+
+#[test]
+fn the_draw_of_a_written_sheet_is_printed_as_by_the_oracle() {
+    let mut generator = Generator::new(94);
+    for _ in 0..cases(1000) {
+        let (mut words, records, k, w) = sheets::to_draw_from(&mut generator);
+        if generator.once_in(8) {
+            words.truncate(generator.below(words.len() + 1));
+        }
+        agrees(&by_the_library(&words, &records, k, w));
+    }
+    agrees(&by_the_library(&[], &generator.records(16_377), 16_377, 8000));
+    agrees(&by_the_library(&[3; 8188], &[5], 1, 0));
 }
 
 #[test]

@@ -306,8 +306,7 @@ fn random_sheets_are_answered_as_by_the_oracle() {
     let cases = cases(100_000);
     for _ in 0..cases {
         let sheet = if generator.once_in(3) { sheets::sound(&mut generator) } else { sheets::damaged(&mut generator) };
-        let k = u32::from_le_bytes([16, 17, 18, 19].map(|place| sheet.get(place).copied().unwrap_or(0)));
-        let enough = (k as usize).min(16_384);
+        let enough = (sheets::number(&sheet, 16) as usize).min(16_384);
         let room = if generator.once_in(8) { generator.below(enough + 1) } else { enough + generator.below(3) };
         let (drawn, _) = run_sheet(&sheet, room);
         numbers.insert(drawn.no);

@@ -1,6 +1,6 @@
-//! Making sheets: laid out soundly, or written from any six numbers; at random, sound and damaged.
+//! Making sheets: laid out soundly, written from any six numbers, or by the library; at random, sound and damaged.
 
-use crate::support::Generator;
+use crate::support::{sheet_written, write_sheet, Generator};
 use hildrasp::oracle::plan;
 use hildrasp::Numbers;
 
@@ -56,8 +56,23 @@ pub fn of_52_bytes() -> Vec<u8> {
     laid_out(&[0, 1], &[101, 205, 309], 1, 1, [0; 3], false)
 }
 
-/// A sheet made to be drawn from: words that suffice, at the edges of acceptance.
-pub fn sound(generator: &mut Generator) -> Vec<u8> {
+/// The six numbers of a sheet that is laid out without gaps, the words first.
+pub fn numbers_without_gaps(words: usize, records: usize, k: usize, w: usize) -> Numbers {
+    let [words, words_at, records, records_at, k, w] =
+        [words, 24, records, 24 + 8 * words, k, w].map(|number| number as u32);
+    Numbers { words, words_at, records, records_at, k, w }
+}
+
+/// The sheet that the library writes into a list of just its length.
+pub fn by_the_library(words: &[u64], records: &[u32], k: usize, w: usize) -> Vec<u8> {
+    let length = 24 + 8 * words.len() + 4 * records.len();
+    let (written, mut sheet) = write_sheet(words, records, k, w, length);
+    assert_eq!(written, sheet_written(length));
+    sheet.lend().to_vec()
+}
+
+/// Words, records, k and w made to be drawn from: words that suffice, at the edges of acceptance.
+pub fn to_draw_from(generator: &mut Generator) -> (Vec<u64>, Vec<u32>, usize, usize) {
     let most = generator.one_of(&[5, 20, 20, 100, 100, 3000]);
     let n = generator.between(1, most);
     let most_k = generator.one_of(&[1, 5, n]).min(n);
@@ -66,6 +81,12 @@ pub fn sound(generator: &mut Generator) -> Vec<u8> {
     let records = generator.records(n);
     let mut words = generator.words_for_plan(&plan::sample(n, k));
     words.extend((0..generator.below(3)).map(|_| generator.word()));
+    (words, records, k, w)
+}
+
+/// A sheet made to be drawn from.
+pub fn sound(generator: &mut Generator) -> Vec<u8> {
+    let (words, records, k, w) = to_draw_from(generator);
     let gaps = [0; 3].map(|_| generator.one_of(&[0, 0, 1, 3, 8, 50]));
     let records_first = generator.once_in(2);
     laid_out(&words, &records, k as u32, w as u32, gaps, records_first)
@@ -111,9 +132,46 @@ pub fn damaged(generator: &mut Generator) -> Vec<u8> {
     sheet
 }
 
+/// Numbers for a k or a w beside n: at its edges and at those of 32 and 64 bits, some with a low half of 0, 1 or n.
+pub fn numbers_beside(n: usize) -> Vec<usize> {
+    let (low_half, high_half) = (0xffff_ffff, 0xffff_ffff << 32);
+    let around_n = [0, 1, n.saturating_sub(1), n, n + 1, n + 2];
+    let around_32_bits = [low_half, low_half + 1, low_half + 2, low_half + 1 + n];
+    let around_64_bits = [1 << 63, (1 << 63) + 1, high_half + 1, high_half + n, usize::MAX - 1, usize::MAX];
+    [&around_n[..], &around_32_bits, &around_64_bits].concat()
+}
+
+/// Words, records, k and w for a sheet to write, whether or not the words suffice for a draw: most are allowed, some
+/// make a sheet about as long as one may be.
+pub fn to_write(generator: &mut Generator) -> (Vec<u64>, Vec<u32>, usize, usize) {
+    let (words, n) = match generator.below(100) {
+        0 => {
+            // Two records take the bytes of a word, and 16,377 records alone are the most.
+            let words = generator.below(8190);
+            (words, 16_377_usize.saturating_sub(2 * words) + generator.below(3))
+        }
+        _ => (generator.below(12), generator.below(25)),
+    };
+    let mut k = generator.between(1, n.max(1));
+    let mut w = generator.below(k + 1);
+    if generator.once_in(8) {
+        w = generator.one_of(&numbers_beside(k));
+    }
+    if generator.once_in(8) {
+        k = generator.one_of(&numbers_beside(n));
+    }
+    let words = (0..words).map(|_| generator.word() >> generator.below(64)).collect();
+    (words, generator.records(n), k, w)
+}
+
+/// The number that starts at this byte, 0 where the sheet ends within it.
+pub fn number(sheet: &[u8], field: usize) -> u32 {
+    let bytes = sheet.get(field..field + 4).and_then(|bytes| bytes.try_into().ok());
+    bytes.map_or(0, u32::from_le_bytes)
+}
+
 /// Changes the number that starts at this byte.
 pub fn change_number(sheet: &mut [u8], field: usize, change: impl Fn(u32) -> u32) {
-    let bytes = &mut sheet[field..field + 4];
-    let number = u32::from_le_bytes([bytes[0], bytes[1], bytes[2], bytes[3]]);
-    bytes.copy_from_slice(&change(number).to_le_bytes());
+    let changed = change(number(sheet, field));
+    sheet[field..field + 4].copy_from_slice(&changed.to_le_bytes());
 }

@@ -2,7 +2,7 @@
 //! comparison of the library's whole answer with the oracle's.
 
 use hildrasp::oracle::{self, plan::Plan, word};
-use hildrasp::raw::{self, Answer, Batch, Behind, Drawn, Numbers};
+use hildrasp::raw::{self, Answer, Batch, Behind, Drawn, Numbers, Written};
 use std::env;
 use std::fmt::{self, Debug};
 use std::path::Path;
@@ -221,7 +221,31 @@ impl Generator {
 
 // ---- Lent lists ----
 
-/// A list to lend, all its places different, between two guards that belong to nobody.
+/// A number that stands at a place of a list to lend before it is lent.
+pub trait Mark: Copy {
+    fn mark(place: usize) -> Self;
+}
+
+impl Mark for u64 {
+    fn mark(place: usize) -> u64 {
+        0xa5a5_0000 + place as u64
+    }
+}
+
+impl Mark for u32 {
+    fn mark(place: usize) -> u32 {
+        0xa5a5_0000 + place as u32
+    }
+}
+
+impl Mark for u8 {
+    /// No byte is 0, and any 255 on end are different.
+    fn mark(place: usize) -> u8 {
+        1 + (place % 255) as u8
+    }
+}
+
+/// A list to lend, with its marks, between two guards that belong to nobody.
 #[derive(Clone, PartialEq, Eq)]
 pub struct Lent<T> {
     all: Vec<T>,
@@ -235,10 +259,9 @@ impl<T: Debug> Debug for Lent<T> {
 
 const GUARD: usize = 20;
 
-impl<T: From<u32>> Lent<T> {
+impl<T: Mark> Lent<T> {
     pub fn with_room(room: usize) -> Lent<T> {
-        let mark = |place| T::from(0xa5a5_0000 + place as u32);
-        Lent { all: (0..room + 2 * GUARD).map(mark).collect() }
+        Lent { all: (0..room + 2 * GUARD).map(T::mark).collect() }
     }
 }
 
@@ -249,7 +272,7 @@ impl<T> Lent<T> {
     }
 }
 
-impl<T: From<u32> + Copy> Lent<T> {
+impl<T: Mark> Lent<T> {
     /// The list that has these values in front and is else as it was.
     pub fn holding(room: usize, values: &[T]) -> Lent<T> {
         let mut lent = Lent::with_room(room);
@@ -269,12 +292,12 @@ pub fn roll_batch(words: &[u64], start: usize, bounds: &[u64]) -> Batch {
 }
 
 /// Calls the library with one list lent, and the oracle with another like it: answer and list are the same.
-fn lend_to_both<T: Copy + Debug + PartialEq>(
+fn lend_to_both<T: Copy + Debug + PartialEq, A: Debug + PartialEq>(
     lent: Lent<T>,
-    library: impl Fn(&mut [T]) -> Answer,
-    oracle: impl Fn(&mut [T]) -> Answer,
+    library: impl Fn(&mut [T]) -> A,
+    oracle: impl Fn(&mut [T]) -> A,
     case: impl Fn() -> String,
-) -> (Answer, Lent<T>) {
+) -> (A, Lent<T>) {
     let (mut by_library, mut by_oracle) = (lent.clone(), lent);
     let answer = library(by_library.lend());
     assert_eq!(answer, oracle(by_oracle.lend()), "{}", case());
@@ -329,14 +352,36 @@ pub fn words_behind(bounds: &[u64], rolls: &[u64]) -> Behind {
     answer
 }
 
-/// Runs a sheet by the library, and by the oracle with the same answer and the same slots.
+/// Runs a sheet by the library and by the oracle.
 pub fn run_sheet(sheet: &[u8], room: usize) -> (Drawn, Lent<u32>) {
-    let (mut by_library, mut by_oracle) = (Lent::with_room(room), Lent::with_room(room));
-    let answer = raw::run_sheet(sheet, by_library.lend());
-    let wanted = oracle::run_sheet(sheet, by_oracle.lend());
-    assert_eq!(answer, wanted, "{} bytes {}, room {room}", sheet.len(), brief(sheet));
-    assert_eq!(by_library, by_oracle, "{} bytes {}, room {room}", sheet.len(), brief(sheet));
-    (answer, by_library)
+    lend_to_both(
+        Lent::with_room(room),
+        |lent| raw::run_sheet(sheet, lent),
+        |lent| oracle::run_sheet(sheet, lent),
+        || format!("{} bytes {}, room {room}", sheet.len(), brief(sheet)),
+    )
+}
+
+/// Writes a sheet by the library and by the oracle.
+pub fn write_sheet(words: &[u64], records: &[u32], k: usize, w: usize, room: usize) -> (Written, Lent<u8>) {
+    lend_to_both(
+        Lent::with_room(room),
+        |lent| raw::write_sheet(words, records, k, w, lent),
+        |lent| oracle::write_sheet(words, records, k, w, lent),
+        || format!("words {}, records {}, k {k}, w {w}, room {room}", brief(words), brief(records)),
+    )
+}
+
+/// Reads a sheet by the library, and by the oracle with the same answer, words and records.
+pub fn read_sheet(sheet: &[u8], [word_room, record_room]: [usize; 2]) -> (Drawn, Lent<u64>, Lent<u32>) {
+    let read_by = |reader: fn(&[u8], &mut [u64], &mut [u32]) -> Drawn| {
+        let (mut words, mut records) = (Lent::with_room(word_room), Lent::with_room(record_room));
+        (reader(sheet, words.lend(), records.lend()), words, records)
+    };
+    let read = read_by(raw::read_sheet);
+    let wanted = read_by(oracle::read_sheet);
+    assert_eq!(read, wanted, "{} bytes {}, room {word_room} and {record_room}", sheet.len(), brief(sheet));
+    read
 }
 
 // ---- Answers written out ----
@@ -371,6 +416,21 @@ pub fn behind(first: u64, last: u64) -> Behind {
 /// A way back that was refused.
 pub fn behind_refused(no: u64) -> Behind {
     Behind { no, next: 0, rejected: 0, first: 0, last: 0 }
+}
+
+/// A sheet that was read.
+pub fn sheet_read(numbers: Numbers) -> Drawn {
+    Drawn { no: 0, next: 0, rejected: 0, batch: 0, numbers }
+}
+
+/// A sheet that was written.
+pub fn sheet_written(length: usize) -> Written {
+    Written { no: 0, next: 0, rejected: 0, length }
+}
+
+/// A sheet that was not written.
+pub fn write_refused(no: u64) -> Written {
+    Written { no, next: 0, rejected: 0, length: 0 }
 }
 
 /// A sheet that was refused.

@@ -1,11 +1,11 @@
 //! The oracle's two ways held against each other, without the library: whole answers and whole lent lists, refusals
 //! included.
 
-use crate::sheets::{self, laid_out, written};
+use crate::sheets::{self, laid_out, numbers_beside, written};
 use crate::support::{brief, cases, in_place, Generator, Lent};
 use hildrasp::oracle::plan::{self, Plan};
 use hildrasp::oracle::{self, second, sheet, word};
-use hildrasp::raw::{Answer, Batch, Behind, Drawn};
+use hildrasp::raw::{Answer, Batch, Behind, Drawn, Written};
 use hildrasp::Numbers;
 use std::collections::BTreeSet;
 use std::fmt::Debug;
@@ -88,6 +88,28 @@ fn run_sheet(sheet: &[u8], room: usize) -> Drawn {
         |lent| oracle::run_sheet(sheet, lent),
         |lent| second::run_sheet(sheet, lent),
         || format!("{} bytes {}, room {room}", sheet.len(), brief(sheet)),
+    )
+}
+
+/// Reads a sheet both ways.
+fn read_sheet(sheet: &[u8], [word_room, record_room]: [usize; 2]) -> Drawn {
+    let read_by = |reader: fn(&[u8], &mut [u64], &mut [u32]) -> Drawn| {
+        let (mut words, mut records) = (Lent::with_room(word_room), Lent::with_room(record_room));
+        (reader(sheet, words.lend(), records.lend()), words, records)
+    };
+    let read = read_by(oracle::read_sheet);
+    let wanted = read_by(second::read_sheet);
+    assert_eq!(read, wanted, "{} bytes {}, room {word_room} and {record_room}", sheet.len(), brief(sheet));
+    read.0
+}
+
+/// Writes a sheet both ways.
+fn write_sheet(words: &[u64], records: &[u32], k: usize, w: usize, room: usize) -> Written {
+    lend_to_both(
+        Lent::with_room(room),
+        |lent| oracle::write_sheet(words, records, k, w, lent),
+        |lent| second::write_sheet(words, records, k, w, lent),
+        || format!("words {}, records {}, k {k}, w {w}, room {room}", brief(words), brief(records)),
     )
 }
 
@@ -235,7 +257,9 @@ fn a_sheet_with_its_areas_at_every_place_is_the_same_both_ways() {
         for (words, records) in (0..=2).flat_map(|words| (0..=3).map(move |records| (words, records))) {
             for (words_at, records_at) in (22..=46).flat_map(|at| (22..=46).map(move |other| (at, other))) {
                 let numbers = Numbers { words, words_at, records, records_at, k: records, w: 1 };
-                run_sheet(&written(length, numbers, &[7, 8], &[9, 10, 11]), 3);
+                let sheet = written(length, numbers, &[7, 8], &[9, 10, 11]);
+                run_sheet(&sheet, 3);
+                read_sheet(&sheet, [2, 3]);
             }
         }
     }
@@ -249,6 +273,21 @@ fn a_sheet_with_every_k_and_w_and_its_text_are_the_same_both_ways() {
             prints(&sheet);
             for room in 0..=5 {
                 run_sheet(&sheet, room);
+                read_sheet(&sheet, [room, n]);
+                read_sheet(&sheet, [words.len(), room]);
+            }
+        }
+    }
+}
+
+#[test]
+fn a_sheet_is_written_the_same_both_ways_with_every_k_and_w_and_room() {
+    let (words, records) = ([u64::MAX, 1 << 40, 3], [9, u32::MAX, 1 << 20, 0]);
+    for (a, n) in (0..=3).flat_map(|a| (0..=4).map(move |n| (a, n))) {
+        let (words, records) = (&words[..a], &records[..n]);
+        for (k, w) in numbers_beside(n).into_iter().flat_map(|k| numbers_beside(n).into_iter().map(move |w| (k, w))) {
+            for room in 0..70 {
+                write_sheet(words, records, k, w, room);
             }
         }
     }
@@ -397,6 +436,25 @@ fn random_sheets_and_their_text_are_the_same_both_ways() {
     });
 }
 
+#[test]
+fn random_sheets_are_read_the_same_both_ways() {
+    random_cases(105, 100_000, &[0, 1, 3, 6], |generator| {
+        let sheet = if generator.once_in(2) { sheets::sound(generator) } else { sheets::damaged(generator) };
+        let words = generator.one_of(&[0, 5, 40, 1500]);
+        let records = generator.one_of(&[0, 20, 100, 3000]);
+        read_sheet(&sheet, [words, records]).no
+    });
+}
+
+#[test]
+fn random_sheets_are_written_the_same_both_ways() {
+    random_cases(106, 100_000, &[0, 2, 3, 6], |generator| {
+        let (words, records, k, w) = sheets::to_write(generator);
+        let room = room_for(generator, 24 + 8 * words.len() + 4 * records.len());
+        write_sheet(&words, &records, k, w, room).no
+    });
+}
+
 // ---- Long lists and draws ----
 
 #[test]
@@ -445,5 +503,23 @@ fn rolls_behind_long_orders_are_the_same_both_ways() {
         for order in [generator.order(n), in_place(n), in_place(n).into_iter().rev().collect()] {
             assert_eq!(rolls_behind(&order, n - 1).no, no, "{n} records");
         }
+    }
+}
+
+#[test]
+fn the_longest_sheets_are_written_and_read_the_same_both_ways() {
+    let mut generator = Generator::new(107);
+    let words: Vec<u64> = (0..70_000).map(|_| generator.word()).collect();
+    let records = generator.records(70_000);
+    for a in [0, 1, 2, 100, 4_094, 8_186, 8_187, 8_188, 8_189, 8_190, 8_192, 65_536] {
+        for more in 0..4 {
+            let n = 16_377_usize.saturating_sub(2 * a) + more;
+            for room in [65_531, 65_532, 65_536, 70_000] {
+                write_sheet(&words[..a], &records[..n], 1, 1, room);
+            }
+            let sheet = laid_out(&words[..a], &records[..n], 1, 1, [0; 3], false);
+            read_sheet(&sheet, [a, n]);
+        }
+        assert_eq!(write_sheet(&words[..a], &records, 1, 1, 70_000).no, 2);
     }
 }

@@ -1,4 +1,4 @@
-//! A second way for each operation, written from document 01 alone.
+//! A second way for each operation, written from documents 01 and 02 alone.
 //!
 //! The first way splits an operation as the definitions do: a plan, its run over the words, a reading of the rolls. A
 //! misreading there could be shared by the definitions, the library and the oracle. The second way has the shape of the
@@ -14,6 +14,8 @@
 //! | words behind rolls | a quotient | a search among all words |
 //! | rolls behind an order | shuffles, and looks records up | follows each record through the rolls before |
 //! | sheet | areas as ranges of bytes | marks the bytes one by one |
+//! | a sheet's length | multiplies and adds | divides the room that is left |
+//! | writing a sheet | number after number, each by its bytes | place after place, each by the number that lies there |
 //! | text of the program | a format for each line | rows of fields; the slots parted into early and late |
 //! | refusals | the first test of a row that holds | the least of the numbers that apply |
 
@@ -22,7 +24,7 @@ mod records;
 pub mod sheet;
 pub mod word;
 
-use crate::raw::{Answer, Batch, Behind, Drawn, Numbers};
+use crate::raw::{Answer, Batch, Behind, Drawn, Numbers, Written};
 use batches::{by_cut, by_size, MAX_BATCH};
 use word::{accepted, rolls_of, run_behind, share};
 
@@ -37,6 +39,9 @@ const MAX_RECORDS: usize = 16_384;
 
 /// What a call comes to: its answer and what goes into the lent list, or the answer of its refusal.
 type Outcome<T> = Result<(Answer, Vec<T>), Answer>;
+
+/// The answer of a call that uses no words.
+const DONE_WITHOUT_WORDS: Answer = Answer { no: 0, next: 0, rejected: 0, batch: 0 };
 
 /// A refusal: its number, the start place as given, the batch, zeros elsewhere.
 fn refused(no: u64, start: usize, batch: usize) -> Answer {
@@ -123,7 +128,7 @@ fn behind_rolls(bounds: &[u64], rolls: &[u64]) -> Outcome<u64> {
         ],
     )?;
     let (first, last) = run_behind(L, bounds, rolls);
-    Ok((Answer { no: 0, next: 0, rejected: 0, batch: 0 }, vec![first, last]))
+    Ok((DONE_WITHOUT_WORDS, vec![first, last]))
 }
 
 /// Shuffles records in the lent list itself.
@@ -161,7 +166,7 @@ pub fn rolls_behind(order: &[u32], lent: &mut [u64]) -> Answer {
 
 fn behind_order(order: &[u32], room: usize) -> Outcome<u64> {
     refuse(0, &[(2, order.len() > MAX_RECORDS), (6, room + 1 < order.len()), (8, !records::are_an_order(order))])?;
-    Ok((Answer { no: 0, next: 0, rejected: 0, batch: 0 }, records::rolls_behind(order)))
+    Ok((DONE_WITHOUT_WORDS, records::rolls_behind(order)))
 }
 
 /// Runs a draw sheet, with its sample in the lent list.
@@ -179,4 +184,39 @@ pub fn run_sheet(sheet: &[u8], lent: &mut [u32]) -> Drawn {
 fn drawn(numbers: Numbers, words: &[u64], records: &[u32], room: usize) -> Outcome<u32> {
     refuse(0, &[(3, numbers.w > numbers.k)])?;
     sampled(words, 0, records, numbers.k as usize, room)
+}
+
+/// Reads a draw sheet into the lent lists.
+pub fn read_sheet(sheet: &[u8], lent_words: &mut [u64], lent_records: &mut [u32]) -> Drawn {
+    let (numbers, words, records) = match read(sheet, lent_words.len(), lent_records.len()) {
+        Ok((numbers, words, records)) => (numbers, Ok((DONE_WITHOUT_WORDS, words)), Ok((DONE_WITHOUT_WORDS, records))),
+        Err(refusal) => (Numbers::default(), Err(refusal), Err(refusal)),
+    };
+    fill(lent_words, words);
+    let Answer { no, next, rejected, batch } = fill(lent_records, records);
+    Drawn { no, next, rejected, batch, numbers }
+}
+
+fn read(sheet: &[u8], word_room: usize, record_room: usize) -> Result<(Numbers, Vec<u64>, Vec<u32>), Answer> {
+    let (numbers, words, records) = sheet::read(sheet).ok_or(refused(1, 0, 0))?;
+    let (k, least_k) = (numbers.k as usize, numbers.w.max(1) as usize);
+    let is_short = words.len() > word_room || records.len() > record_room;
+    refuse(0, &[(3, !(least_k..=records.len()).contains(&k)), (6, is_short)])?;
+    Ok((numbers, words, records))
+}
+
+/// Writes a draw sheet into the lent list.
+pub fn write_sheet(words: &[u64], records: &[u32], k: usize, w: usize, lent: &mut [u8]) -> Written {
+    let outcome = written(words, records, k, w, lent.len());
+    let length = outcome.as_ref().map_or(0, |(_, bytes)| bytes.len());
+    let Answer { no, next, rejected, .. } = fill(lent, outcome);
+    Written { no, next, rejected, length }
+}
+
+fn written(words: &[u64], records: &[u32], k: usize, w: usize, room: usize) -> Outcome<u8> {
+    let n = records.len();
+    refuse(0, &[(2, !sheet::has_room_for(words.len(), n)), (3, !(w.max(1)..=n).contains(&k))])?;
+    let bytes = sheet::write(words, records, k, w);
+    refuse(0, &[(6, bytes.len() > room)])?;
+    Ok((DONE_WITHOUT_WORDS, bytes))
 }

@@ -1,4 +1,5 @@
-//! The draw sheet read number by number, its bytes marked one by one; and the program's text as rows of fields.
+//! The draw sheet read number by number, its bytes marked one by one, and written place by place; and the program's
+//! text as rows of fields.
 
 use super::run_sheet;
 use crate::raw::{Drawn, Numbers};
@@ -42,6 +43,32 @@ pub fn read(sheet: &[u8]) -> Option<(Numbers, Vec<u64>, Vec<u32>)> {
     let words_of_the_sheet = (0..words).map(|i| word(sheet, (words_at + 8 * i) as usize)).collect();
     let records_of_the_sheet = (0..records).map(|i| number(sheet, (records_at + 4 * i) as usize)).collect();
     Some((Numbers { words, words_at, records, records_at, k, w }, words_of_the_sheet, records_of_the_sheet))
+}
+
+/// Whether a sheet may have so many words and records: the words find room after the six numbers, and the records in
+/// what is then left.
+pub fn has_room_for(words: usize, records: usize) -> bool {
+    let room = MAX_SHEET - HEADER;
+    words <= room / 8 && records <= (room - 8 * words) / 4
+}
+
+/// The sheet of these words and records: for each place the number that lies there, and which of its bytes.
+pub fn write(words: &[u64], records: &[u32], k: usize, w: usize) -> Vec<u8> {
+    let words_at = HEADER;
+    let records_at = words_at + 8 * words.len();
+    let length = records_at + 4 * records.len();
+    let numbers = [words.len(), words_at, records.len(), records_at, k, w];
+    let byte_at = |place: usize| {
+        let (number, byte) = if place >= records_at {
+            (u64::from(records[(place - records_at) / 4]), (place - records_at) % 4)
+        } else if place >= words_at {
+            (words[(place - words_at) / 8], (place - words_at) % 8)
+        } else {
+            (numbers[place / 4] as u64, place % 4)
+        };
+        (number >> (8 * byte)) as u8
+    };
+    (0..length).map(byte_at).collect()
 }
 
 /// A row of the program's text: its fields with one blank between them, and a line feed.
