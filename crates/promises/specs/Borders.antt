@@ -2,12 +2,13 @@
 -- takes words the start is above their number, so that a call which no lower number refuses is refused by 9.
 --
 --   sheet28 k w   a sheet of 28 bytes, with no word and one record, and these k and w
+--   sheet36       a sheet of 36 bytes, with one word and one record, k = 1 and w = 1
 --   table         the borders
 --   Borders       the statement: every line is true
 use mathlib.Core.Bool.{Bool}
 use mathlib.Core.List.{List, [], _∷_}
 use Prim.Native.Nat.{ℕ}
-use lib.Dec.{T}
+use lib.Dec.{T, eqb}
 use lib.ListN.{replicate}
 use Rattle.rules.specs.Width.{w64}
 use Rattle.rolls.specs.Batch.{rollBatch}
@@ -16,12 +17,19 @@ use Rattle.shuffles.specs.Shuffle.{shuffle}
 use Rattle.draws.specs.Sample.{sample}
 use Rattle.runs.specs.Behind.{wordsBehind}
 use Rattle.orders.specs.Order.{rollsBehind}
+use Rattle.sheet.specs.ReadSheet.{seenRead}
 use Rattle.sheet.specs.RunSheet.{runSheet}
-use Rattle.promises.specs.Examples.{refused, all}
+use Rattle.writer.specs.WriteSheet.{writeSheet}
+use Rattle.promises.specs.Examples.{done, refused, all}
 
 abbrev pub sheet28 : ℕ → ℕ → List ℕ
 sheet28 k w =
     0 ∷ 0 ∷ 0 ∷ 0 ∷ 24 ∷ 0 ∷ 0 ∷ 0 ∷ 1 ∷ 0 ∷ 0 ∷ 0 ∷ 24 ∷ 0 ∷ 0 ∷ 0 ∷ k ∷ 0 ∷ 0 ∷ 0 ∷ w ∷ 0 ∷ 0 ∷ 0 ∷ 7 ∷ 0 ∷ 0 ∷ 0 ∷ []
+
+abbrev pub sheet36 : List ℕ
+sheet36 =
+    1 ∷ 0 ∷ 0 ∷ 0 ∷ 24 ∷ 0 ∷ 0 ∷ 0 ∷ 1 ∷ 0 ∷ 0 ∷ 0 ∷ 32 ∷ 0 ∷ 0 ∷ 0 ∷ 1 ∷ 0 ∷ 0 ∷ 0 ∷ 1 ∷ 0 ∷ 0 ∷ 0 ∷ 5 ∷ 0 ∷ 0 ∷ 0 ∷ 0 ∷ 0 ∷ 0 ∷ 0
+    ∷ 7 ∷ 0 ∷ 0 ∷ 0 ∷ []
 
 unfoldable pub table : List Bool
 table =
@@ -58,6 +66,22 @@ table =
     ∷ refused (runSheet w64 (sheet28 1 2) 1) 3 0
     ∷ refused (runSheet w64 (sheet28 2 0) 2) 3 0
     ∷ refused (runSheet w64 [] 1) 1 0
+    -- writing: the sheet would pass 65,535 bytes; k and w as on a sheet; no room
+    ∷ refused (writeSheet [] (replicate 16377 0) 0 0 0) 3 0
+    ∷ refused (writeSheet [] (replicate 16378 0) 0 0 0) 2 0
+    ∷ refused (writeSheet (replicate 8188 0) (0 ∷ []) 0 0 0) 3 0
+    ∷ refused (writeSheet (replicate 8188 0) (0 ∷ 0 ∷ []) 0 0 0) 2 0
+    ∷ refused (writeSheet [] (0 ∷ []) 1 2 28) 3 0
+    ∷ refused (writeSheet [] (0 ∷ []) 2 0 28) 3 0
+    ∷ refused (writeSheet [] (0 ∷ []) 1 1 27) 6 0
+    ∷ done (writeSheet [] (7 ∷ []) 1 1 28) (sheet28 1 1) 0 0
+    -- reading: k and w as on a sheet; no room for a word, no room for a record
+    ∷ eqb (seenRead (sheet28 0 0) [] (0 ∷ []) .0 .no) 3
+    ∷ eqb (seenRead (sheet28 1 2) [] (0 ∷ []) .0 .no) 3
+    ∷ eqb (seenRead (sheet28 1 1) [] [] .0 .no) 6
+    ∷ eqb (seenRead sheet36 [] (0 ∷ []) .0 .no) 6
+    ∷ eqb (seenRead sheet36 (0 ∷ []) (0 ∷ []) .0 .no) 0
+    ∷ eqb (seenRead [] (0 ∷ []) (0 ∷ []) .0 .no) 1
     ∷ []
 
 abbrev pub Borders : Type 0

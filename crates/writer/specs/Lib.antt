@@ -1,1 +1,2 @@
 pub mod WriteSheet
+pub mod Pinned
