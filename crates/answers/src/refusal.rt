@@ -3,7 +3,7 @@
 // the sheet is not sound
 pub const SHEET: u64 = 1;
 
-// bounds or records outside their count
+// bounds or records outside their count; a sheet to be written would pass 65,535 bytes
 pub const COUNT: u64 = 2;
 
 // k is 0 or above n; on a sheet, w is above k

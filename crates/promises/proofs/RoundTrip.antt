@@ -54,7 +54,7 @@ right n k w v = ap₂ _||_ (in-count 1 n k (v .0) (v .1)) (le-ltb k w (v .2))
 
 -- ---- a written sheet, with bytes behind it
 
-module _ (W : Width) (ws xs : List ℕ) (k w : ℕ) (lent back : List ℕ) (v : Fitting ws xs k w) (l : length (written ws xs k w ++ back) ≤ 65535) where
+module _ (W : Width) (ws xs : List ℕ) (k w : ℕ) (back : List ℕ) (v : Fitting ws xs k w) (l : length (written ws xs k w ++ back) ≤ 65535) where
   abbrev s : List ℕ
   s = written ws xs k w ++ back
 
@@ -88,11 +88,11 @@ module _ (W : Width) (ws xs : List ℕ) (k w : ℕ) (lent back : List ℕ) (v : 
         let g = r .front-records ∙ ap₂ (λ (m : List ℕ) (n : ℕ). m ++ drop n records) (written-records ws xs k w v back) (ap (λ (n : Numbers). n .records) six) in
         λ i. (d i, (f i, g i))
 
-    write-again : let got = seenRead s words records in
-        seenWrite (take (got .0 .words) (got .1 .0)) (take (got .0 .records) (got .1 .1)) (got .0 .k) (got .0 .w) lent ≡ seenWrite ws xs k w lent
-    write-again =
-        ap (λ (got : Drawn × (List ℕ × List ℕ)). seenWrite (take (got .0 .words) (got .1 .0)) (take (got .0 .records) (got .1 .1)) (got .0 .k) (got .0 .w) lent) read-back
-        ∙ ap₂ (λ (a b : List ℕ). seenWrite a b k w lent) (take-append-seam ws (drop (length ws) words)) (take-append-seam xs (drop (length xs) records))
+    write-again : (into : List ℕ) → let got = seenRead s words records in
+        seenWrite (take (got .0 .words) (got .1 .0)) (take (got .0 .records) (got .1 .1)) (got .0 .k) (got .0 .w) into ≡ seenWrite ws xs k w into
+    write-again into =
+        ap (λ (got : Drawn × (List ℕ × List ℕ)). seenWrite (take (got .0 .words) (got .1 .0)) (take (got .0 .records) (got .1 .1)) (got .0 .k) (got .0 .w) into) read-back
+        ∙ ap₂ (λ (a b : List ℕ). seenWrite a b k w into) (take-append-seam ws (drop (length ws) words)) (take-append-seam xs (drop (length xs) records))
 
   draw : (room : ℕ) → runSheet W s room ≡ sample W ws 0 xs k room
   unfolding runSheet
@@ -103,8 +103,8 @@ module _ (W : Width) (ws xs : List ℕ) (k w : ℕ) (lent back : List ℕ) (v : 
       let same : sample W (wordsOf s) 0 (recordsOf s) (numbers s .k) room ≡ sample W ws 0 xs k room = cc in
       allowed-done (unreadable s) (sample W (wordsOf s) 0 (recordsOf s) (numbers s .k) room) readable ∙ same
 
-  kept : Back W ws xs k w lent s
-  kept = record { sound = written-sound ws xs k w v back l; read = read-back; again = write-again; draw = draw }
+  kept : Back W ws xs k w s
+  kept = record { sound = written-sound ws xs k w v back l; read = read-back; again = λ words records into h j. write-again words records h j into; draw = draw }
 
 -- the first n bytes of what a writer left, from the sheet's length on, are the sheet and bytes behind it
 first-bytes : (sheet rest : List ℕ) (n : ℕ) → length sheet ≤ n → take n (sheet ++ rest) ≡ sheet ++ take (n - length sheet) rest
@@ -127,7 +127,7 @@ module _ (ws xs : List ℕ) (k w : ℕ) (lent : List ℕ) (a : Allowed (writeRef
 written-back : (W : Width) → WrittenBack W
 written-back W ws xs k w lent b a n h l =
     let (back, same, fit) = left-sheet ws xs k w lent a n h l in
-    subst (λ (s : List ℕ). Back W ws xs k w lent s) (sym same) (kept W ws xs k w lent back (fitting ws xs k w lent a b) fit)
+    subst (λ (s : List ℕ). Back W ws xs k w s) (sym same) (kept W ws xs k w back (fitting ws xs k w lent a b) fit)
 
 -- ---- a sheet that can be read
 
@@ -173,7 +173,7 @@ module _ (W : Width) (s lent : List ℕ) (b : Bytes s) (a : Allowed (unreadable 
           ap (λ (t : List ℕ). numbers t .k) same ∙ ap (λ (h : Numbers). h .k) (written-numbers ws xs k w v back),
           ap (λ (t : List ℕ). numbers t .w) same ∙ ap (λ (h : Numbers). h .w) (written-numbers ws xs k w v back),
         );
-        draw = λ m. ap (λ (t : List ℕ). runSheet W t m) same ∙ draw W ws xs k w lent back v fit m
+        draw = λ m. ap (λ (t : List ℕ). runSheet W t m) same ∙ draw W ws xs k w back v fit m
             ∙ sym (allowed-done (unreadable s) (sample W ws 0 xs k m) a);
       }
 

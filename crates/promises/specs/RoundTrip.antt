@@ -1,7 +1,7 @@
 -- Sheets written, read, run and written again: a statement for each sentence of document 02, M-100.
 --
---   Back W ws xs k w lent s    what is said of the written sheet s: it is sound; read, it gives the six numbers, the words and the records;
---                              written again it is the same; and its draw is their sample
+--   Back W ws xs k w s         what is said of the written sheet s: it is sound; read, it gives the six numbers, the words and the records;
+--                              written again, into any list, it is the same; and its draw is their sample
 --   WrittenBack W              the statement: of every sheet that is written, its bytes alone or with bytes behind it, up to 65,535 in all. No
 --                              condition is on the words
 --   Again W s lent got         what is said of a sheet s that can be read, and of what its caller got who wrote its words and records again
@@ -28,7 +28,7 @@ use Rattle.promises.specs.Examples.{same, done, refused, all}
 use Rattle.promises.specs.Sheet.{Bytes}
 use Rattle.promises.specs.Write.{Callable}
 
-pub record Back (W : Width) (ws xs : List ℕ) (k w : ℕ) (lent s : List ℕ) : Type 0 where
+pub record Back (W : Width) (ws xs : List ℕ) (k w : ℕ) (s : List ℕ) : Type 0 where
   -- "A written sheet is sound"
   pub sound : Sound s
   -- "reading it, whether or not its words suffice for the draw, gives back the same six numbers and areas"
@@ -50,16 +50,16 @@ pub record Back (W : Width) (ws xs : List ℕ) (k w : ℕ) (lent s : List ℕ) :
         (ws ++ drop (length ws) words, xs ++ drop (length xs) records),
       )
   -- "writing again what was read from a written sheet gives the same bytes"
-  pub again : (words records : List ℕ) → length ws ≤ length words → length xs ≤ length records
+  pub again : (words records into : List ℕ) → length ws ≤ length words → length xs ≤ length records
       → let got : Drawn × (List ℕ × List ℕ) = seenRead s words records in
-      seenWrite (take (got .0 .words) (got .1 .0)) (take (got .0 .records) (got .1 .1)) (got .0 .k) (got .0 .w) lent ≡ seenWrite ws xs k w lent
+      seenWrite (take (got .0 .words) (got .1 .0)) (take (got .0 .records) (got .1 .1)) (got .0 .k) (got .0 .w) into ≡ seenWrite ws xs k w into
   -- the draw of a written sheet is the sample of its records by its words from start 0
   pub draw : (room : ℕ) → runSheet W s room ≡ sample W ws 0 xs k room
 
 abbrev pub WrittenBack : Width → Type 0
 WrittenBack W = (ws xs : List ℕ) (k w : ℕ) (lent : List ℕ) → Callable ws xs → Allowed (writeRefusals ws xs k w (length lent))
     → let got : Written × List ℕ = seenWrite ws xs k w lent in
-    (n : ℕ) → got .0 .length ≤ n → n ≤ 65535 → Back W ws xs k w lent (take n (got .1))
+    (n : ℕ) → got .0 .length ≤ n → n ≤ 65535 → Back W ws xs k w (take n (got .1))
 
 pub record Again (W : Width) (s lent : List ℕ) (got : Written × List ℕ) : Type 0 where
   -- it is written, with no gap, in no more bytes than s has
