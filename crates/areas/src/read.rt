@@ -25,7 +25,7 @@ pub fn read_number(bytes: &[u8], at: usize) -> u32
 }
 
 // The 64-bit number at a place of the bytes.
-pub fn read_word(bytes: &[u8], at: usize) -> u64
+fn read_word(bytes: &[u8], at: usize) -> u64
     requires { ⌜ at + 8 ≤ length (now bytes) ⌝ }
     ensures { λ r. ⌜ r ≡ number 8 at (now (bytes .entry)) ⌝ }
 {

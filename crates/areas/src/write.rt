@@ -17,7 +17,7 @@ pub fn write_number(bytes: &mut [u8], at: usize, n: u32)
 }
 
 // Puts a 64-bit number at a place of the bytes; all others stay.
-pub fn write_word(bytes: &mut [u8], at: usize, word: u64)
+fn write_word(bytes: &mut [u8], at: usize, word: u64)
     requires { ⌜ at + 8 ≤ length (now bytes) ⌝ }
     ensures { λ r. ⌜ now (bytes .exit) ≡ put (now (bytes .entry)) at (bytesOf 8 word) ⌝ }
 {

@@ -1,5 +1,6 @@
 pub mod Calls
 pub mod Refusing
+pub mod Which
 pub mod FirstShort
 pub mod Method
 pub mod Firsts

@@ -9,7 +9,7 @@ use native.Mathlib.Omega.{arith}
 use lib.Dec.{ltb}
 use lib.Ieee.Bits.{is-true}
 use lib.ListN.{length, take, drop, length-take}
-use lib.Seq.{take-append-add, take-append-seam}
+use lib.Seq.{take-append-add, take-append-seam, take-at}
 use borrow.Author.Tests.{le-ltb, not-false}
 use Rattle.rules.specs.Cut.{cut, cutFrom}
 use Rattle.rules.specs.Reservoir.{countup, reservoir}
@@ -17,28 +17,27 @@ use Rattle.rules.specs.Rolls.{product, rolls, rest}
 use Rattle.rules.specs.Run.{find, runFrom, rollsOf, next, rejected}
 use Rattle.rules.specs.Width.{Width, w64}
 use Rattle.answers.specs.Outcome.{Refusal, no, decide}
-use Rattle.answers.proofs.Deciding.{in-count}
 use Rattle.areas.specs.Area.{little, entries, bytesOf, area}
 use Rattle.draws.specs.Sample.{sample}
 use Rattle.sheet.specs.Sheet.{Numbers, numbers, wordsOf, recordsOf, Sound, isSound, wrongSize}
 use Rattle.sheet.specs.ReadSheet.{unreadable, readRefusals, drawnBy, seenRead}
 use Rattle.sheet.specs.RunSheet.{runSheet}
 use Rattle.sheet.specs.declared.read.Drawn.{Drawn}
-use Rattle.sheet.proofs.Reading.{length-words, length-records}
+use Rattle.sheet.proofs.Reading.{length-words, length-records, size-right}
 use Rattle.sheet.proofs.Soundness.{sound-known, sound-iff, sheet-parts}
 use Rattle.writer.specs.WriteSheet.{lengthOf, written, writeRefusals, seenWrite}
 use Rattle.writer.specs.declared.write.Written.{Written}
 use Rattle.writer.proofs.Laid.{length-written, Fitting, written-numbers, written-words, written-records, written-sound}
-use Rattle.writer.proofs.Writing.{right-size}
 use Rattle.promises.specs.Demand1.{firstOf}
 use Rattle.promises.specs.Demand2.{Allowed}
 use Rattle.promises.specs.RoundTrip.{Back, WrittenBack, Again, ReadAgain, table, RoundTrip}
 use Rattle.promises.specs.Sheet.{Bytes}
 use Rattle.promises.specs.Write.{Callable}
 use Rattle.promises.proofs.Read as read
+use Rattle.promises.proofs.Read.{read-allowed}
 use Rattle.promises.proofs.Refusing.{first-past, allowed-cons, allowed-done}
 use Rattle.promises.proofs.Sheet.{fits}
-use Rattle.promises.proofs.Write.{fitting, wrote}
+use Rattle.promises.proofs.Write.{write-allowed, fitting, wrote}
 
 -- ---- none applies
 
@@ -48,9 +47,6 @@ allowed-past n b rs e a = ap (λ (r : Refusal). r .applies) (first-past (no n b)
 allowed-nil : Allowed []
 unfolding firstOf
 allowed-nil = refl
-
-right : (n k w : ℕ) → (1 ≤ k) × (k ≤ n) × (w ≤ k) → wrongSize n k w ≡ false
-right n k w v = ap₂ _||_ (in-count 1 n k (v .0) (v .1)) (le-ltb k w (v .2))
 
 -- ---- a written sheet, with bytes behind it
 
@@ -65,7 +61,7 @@ module _ (W : Width) (ws xs : List ℕ) (k w : ℕ) (back : List ℕ) (v : Fitti
   sound = is-true _ (sound-iff s .1 (written-sound ws xs k w v back l))
 
   size : wrongSize (numbers s .records) (numbers s .k) (numbers s .w) ≡ false
-  size = ap (λ (h : Numbers). wrongSize (h .records) (h .k) (h .w)) six ∙ right (length xs) k w (v .size)
+  size = ap (λ (h : Numbers). wrongSize (h .records) (h .k) (h .w)) six ∙ size-right (length xs) k w (v .size)
 
   readable : Allowed (unreadable s)
   readable = allowed-past 1 _ _ (ap not sound) (allowed-past 3 _ _ size allowed-nil)
@@ -125,13 +121,18 @@ module _ (ws xs : List ℕ) (k w : ℕ) (lent : List ℕ) (a : Allowed (writeRef
       (take (n - length (written ws xs k w)) rest, same, omega (arith, l, ap length same, length-take n (seenWrite ws xs k w lent .1)))
 
 written-back : (W : Width) → WrittenBack W
-written-back W ws xs k w lent b a n h l =
-    let (back, same, fit) = left-sheet ws xs k w lent a n h l in
-    subst (λ (s : List ℕ). Back W ws xs k w s) (sym same) (kept W ws xs k w back (fitting ws xs k w lent a b) fit)
+written-back W ws xs k w lent b z =
+    let a = write-allowed ws xs k w lent z in
+    let v = fitting ws xs k w lent a b in (
+      omega (arith, v .long, long ws xs k w lent a, length-written ws xs k w),
+      λ n h l.
+          let (back, same, fit) = left-sheet ws xs k w lent a n h l in
+          subst (λ (s : List ℕ). Back W ws xs k w s) (sym same) (kept W ws xs k w back v fit),
+    )
 
--- ---- a sheet that can be read
+-- ---- a sheet that was read
 
-module _ (W : Width) (s lent : List ℕ) (b : Bytes s) (a : Allowed (unreadable s)) (room : length s ≤ length lent) where
+module _ (W : Width) (s lent : List ℕ) (b : Bytes s) (a : Allowed (unreadable s)) (room : 24 + 8 * numbers s .words + 4 * numbers s .records ≤ length lent) where
   abbrev ws : List ℕ
   ws = wordsOf s
 
@@ -154,9 +155,9 @@ module _ (W : Width) (s lent : List ℕ) (b : Bytes s) (a : Allowed (unreadable 
   can-write =
       allowed-past 2 _ _ (le-ltb 65535 (lengthOf ws xs) (omega (arith, short, known .allowed .1)))
       (allowed-past 3 _ _ (ap (λ (n : ℕ). wrongSize n k w) (length-records s) ∙ allowed-cons _ _ (allowed-cons _ _ a .1) .0)
-      (allowed-past 6 _ _ (le-ltb (length lent) (lengthOf ws xs) (omega (arith, short, room))) allowed-nil))
+      (allowed-past 6 _ _ (le-ltb (length lent) (lengthOf ws xs) (omega (arith, room, length-words s, length-records s))) allowed-nil))
 
-  again : Again W s lent (seenWrite ws xs k w lent)
+  again : Again W s (seenWrite ws xs k w lent)
   unfolding runSheet
   again =
       let e = wrote ws xs k w lent can-write in
@@ -177,8 +178,23 @@ module _ (W : Width) (s lent : List ℕ) (b : Bytes s) (a : Allowed (unreadable 
             ∙ sym (allowed-done (unreadable s) (sample W ws 0 xs k m) a);
       }
 
+-- a list of refusals of which the first two do not apply
+first-two : (r t : Refusal) (rs : List Refusal) → Allowed (r ∷ t ∷ rs) → Allowed (r ∷ t ∷ [])
+first-two r t rs a =
+    let (e, later) = allowed-cons _ _ a in
+    ap (λ (x : Refusal). x .applies) (first-past r (t ∷ []) e) ∙ ap (λ (x : Refusal). x .applies) (first-past t [] (allowed-cons _ _ later .0)) ∙ allowed-nil
+
 read-again : (W : Width) → ReadAgain W
-read-again W s lent b a room = again W s lent b a room
+read-again W s words records lent b z room =
+    let a = read-allowed s words records z in
+    let r = read.promise .demand2 s words records a in
+    let n = ap (λ (d : Drawn). d .words) (r .six) in
+    let m = ap (λ (d : Drawn). d .records) (r .six) in
+    let front = ap₂ (λ (i : ℕ) (l : List ℕ). take i l) n (r .front-words) ∙ take-at (wordsOf s) _ (numbers s .words) (length-words s) in
+    let back = ap₂ (λ (i : ℕ) (l : List ℕ). take i l) m (r .front-records) ∙ take-at (recordsOf s) _ (numbers s .records) (length-records s) in
+    let k = ap (λ (d : Drawn). d .k) (r .six) in
+    let w = ap (λ (d : Drawn). d .w) (r .six) in
+    rw (front, back, k, w) (again W s lent b (first-two _ _ _ a) (omega (arith, room, n, m)))
 
 pub round-trip : RoundTrip w64
 unfolding table runSheet sample decide find runFrom rollsOf next rejected rolls rest product cut cutFrom countup reservoir little entries bytesOf area

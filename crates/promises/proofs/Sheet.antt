@@ -2,7 +2,8 @@
 --
 --   fits       the words of a sheet are below 2^64 and its records below 2^32
 --   promise    the promise, at 64 bits
-use mathlib.Core.Path.{_≡_, refl, sym, ap, _∙_}
+use mathlib.Core.Path.{_≡_, refl, sym, ap, subst, _∙_}
+use mathlib.Core.Logic.{_⊎_, inl, inr, _≢_}
 use mathlib.Core.Bool.{Bool, false}
 use mathlib.Core.List.{List, [], _∷_, _++_}
 use Prim.Native.Nat.{ℕ, zero, suc, suc-le-suc, zero-le, _+_, _^_, _<_, _≤_}
@@ -16,7 +17,7 @@ use Rattle.rules.specs.Order.{AllBelow}
 use Rattle.rules.specs.Plan.{RollablePlan}
 use Rattle.rules.specs.Reservoir.{countup, reservoir}
 use Rattle.rules.specs.Cut.{cut}
-use Rattle.rules.specs.Run.{Run, run, runFrom, trace, rollsOf, next, rejected}
+use Rattle.rules.specs.Run.{Run, ran, short, run, runFrom, trace, rollsOf, next, rejected}
 use Rattle.rules.specs.Width.{Width, w64}
 use Rattle.rules.proofs.Facts.{or-left, or-right}
 use Rattle.rules.proofs.Reservoir.{length-sample}
@@ -25,7 +26,7 @@ use Rattle.answers.specs.Outcome.{Outcome, Refusal, no, noWord, ofWords, outsid
 use Rattle.answers.specs.declared.answer.Answer.{Answer}
 use Rattle.areas.specs.Area.{little, number, entries}
 use Rattle.draws.specs.Sample.{samplePlan, sampled}
-use Rattle.sheet.specs.Sheet.{numbers, wordsOf, recordsOf, isSound}
+use Rattle.sheet.specs.Sheet.{Numbers, numbers, wordsOf, recordsOf, isSound}
 use Rattle.sheet.specs.ReadSheet.{drawnBy, shownDrawn}
 use Rattle.sheet.specs.RunSheet.{sheetRefusals, seenSheet}
 use Rattle.sheet.specs.declared.read.Drawn.{Drawn}
@@ -34,11 +35,12 @@ use Rattle.sheet.proofs.Running.{sheet-flat}
 use Rattle.sheet.proofs.Soundness.{sound-known, sound-iff, sheet-records}
 use Rattle.promises.specs.Demand1.{firstOf}
 use Rattle.promises.specs.Demand2.{Allowed, ByMethod}
-use Rattle.promises.specs.Sheet.{Op, Bytes, CanMeet, Fits, answerOf, Draws, Demand1, Demand2, Settled, StandIns, Promise}
+use Rattle.promises.specs.Sheet.{Op, Bytes, CanMeet, Fits, When, answerOf, Draws, Demand1, Demand2, Settled, StandIns, Promise}
 use Rattle.promises.proofs.Calls.{below-nil, below-cons, allBelow, all-below}
 use Rattle.promises.proofs.Method.{by-method, same-seen}
 use Rattle.promises.proofs.Refusing.{as-refused, first-past, allowed-cons, allowed-done, numbered-no, numbered-word, settle, ten-last}
 use Rattle.promises.proofs.Sample.{plan-fits}
+use Rattle.promises.proofs.Which.{differ, which, tested-sound, tested-size, tested-room}
 
 -- ---- the words and the records of a sheet
 
@@ -72,6 +74,29 @@ demand1 : (W : Width) → Demand1 W (seenSheet W)
 demand1 W s lent b =
     as-refused (λ o. (shownDrawn s o, left lent o)) (λ o. (shownDrawn s o, lent)) (λ (x : Drawn × List ℕ). x .0 .no) (λ n b. refl) (λ n b. refl) _ refl
     (sheetRefusals W s (length lent)) (seenSheet W s lent) (ap (λ (o : Outcome). (shownDrawn s o, left lent o)) (sheet-flat W s (length lent)))
+
+-- past number 6 nothing is given, or 10
+ten-or-none : (r : Run) → let n = firstOf (noWord r ∷ []) .number in ((n ≡ 0) ⊎ (n ≡ 10)) × (n ≢ 1) × (n ≢ 3) × (n ≢ 6)
+unfolding firstOf
+ten-or-none (ran ts) = (inl refl, differ tt, differ tt, differ tt)
+ten-or-none (short k) = (inr refl, differ tt, differ tt, differ tt)
+
+neither : (n : ℕ) → n ≢ 0 → n ≢ 10 → ¬ ((n ≡ 0) ⊎ (n ≡ 10))
+neither n a b (inl e) = a e
+neither n a b (inr e) = b e
+
+when : (W : Width) (s lent : List ℕ) → Bytes s → When s lent (seenSheet W s lent .0 .no)
+when W s lent b =
+    let h : Numbers = numbers s in
+    let r : Run = run (W .bits) (samplePlan W (h .records) (h .k)) (wordsOf s) 0 in
+    subst (When s lent) (sym (demand1 W s lent b .lowest))
+    (which
+    (record {
+      numbers = (differ tt, differ tt, differ tt);
+      rests = (neither 1 (differ tt) (differ tt), neither 3 (differ tt) (differ tt), neither 6 (differ tt) (differ tt));
+    })
+    (noWord r ∷ []) (ten-or-none r) _ _ _
+    (tested-sound s) (tested-size (h .records) (h .k) (h .w)) (tested-room (length lent) (h .k)))
 
 -- a start of 0 is never above the number of words
 from-zero : (L : ℕ) (plan : List (List ℕ)) (words : List ℕ) → Allowed (noWord (run L plan words 0) ∷ []) → Allowed (ofWords L plan words 0)
@@ -151,6 +176,7 @@ promise = record {
   sound = sound-iff;
   fits = fits;
   demand1 = demand1 w64;
+  when = when w64;
   demand2 = demand2;
   settled = settled;
   stand-ins = stand-ins;

@@ -1,9 +1,10 @@
 -- Writing a draw sheet: what nothing refuses is written, number by number. Assumes nothing.
 --
---   fitting    what a writer accepts can be read again
---   wrote      what its caller then sees
---   promise    the promise
-use mathlib.Core.Path.{_≡_, refl, sym, ap, ap₂, _∙_}
+--   write-allowed    what was written was not refused
+--   fitting          what a writer accepts can be read again
+--   wrote            what its caller then sees
+--   promise          the promise
+use mathlib.Core.Path.{_≡_, refl, sym, ap, ap₂, subst, _∙_}
 use mathlib.Core.List.{List, [], _∷_, _++_}
 use Prim.Native.Nat.{ℕ, _+_, _*_, _/_, _%_, _^_}
 use native.Mathlib.Omega.{arith}
@@ -15,12 +16,13 @@ use Rattle.answers.specs.Outcome.{Outcome, done, left}
 use Rattle.writer.specs.WriteSheet.{lengthOf, written, writeRefusals, writeSheet, shownWritten, seenWrite}
 use Rattle.writer.specs.declared.write.Written.{Written}
 use Rattle.writer.proofs.Laid.{length-written, Fitting, laid-six, laid-words, laid-records, written-known}
-use Rattle.writer.proofs.Writing.{right-size}
+use Rattle.sheet.proofs.Reading.{right-size}
 use Rattle.promises.specs.Demand1.{firstOf}
 use Rattle.promises.specs.Demand2.{Allowed}
-use Rattle.promises.specs.Write.{Op, Callable, CanMeet, Writes, Demand1, Demand2, Settled, StandIns, Promise}
+use Rattle.promises.specs.Write.{Op, Callable, CanMeet, When, Writes, Demand1, Demand2, Settled, StandIns, Promise}
 use Rattle.promises.proofs.Calls.{below-nil, one-number}
-use Rattle.promises.proofs.Refusing.{as-refused, allowed-cons, allowed-done, numbered-nil, numbered-no, settle}
+use Rattle.promises.proofs.Refusing.{as-refused, allowed-cons, allowed-done, Numbered, numbered-nil, numbered-no, settle}
+use Rattle.promises.proofs.Which.{differ, which, none-applies, tested-size, tested-room}
 
 can-meet : CanMeet
 can-meet ws xs k w room = refl
@@ -30,6 +32,28 @@ unfolding writeSheet
 demand1 ws xs k w lent b =
     as-refused (λ o. (shownWritten o, left lent o)) (λ o. (shownWritten o, lent)) (λ (x : Written × List ℕ). x .0 .no) (λ n b. refl) (λ n b. refl)
     (done (written ws xs k w) []) refl (writeRefusals ws xs k w (length lent)) (seenWrite ws xs k w lent) refl
+
+-- the number that is given, on any lists
+lowest : (ws xs : List ℕ) (k w : ℕ) (lent : List ℕ) → seenWrite ws xs k w lent .0 .no ≡ firstOf (writeRefusals ws xs k w (length lent)) .number
+unfolding writeSheet
+lowest ws xs k w lent =
+    as-refused (λ o. (shownWritten o, left lent o)) (λ o. (shownWritten o, lent)) (λ (x : Written × List ℕ). x .0 .no) (λ n b. refl) (λ n b. refl)
+    (done (written ws xs k w) []) refl (writeRefusals ws xs k w (length lent)) (seenWrite ws xs k w lent) refl .lowest
+
+numbered : (ws xs : List ℕ) (k w room : ℕ) → Numbered (writeRefusals ws xs k w room)
+numbered ws xs k w room = numbered-no 2 _ _ (lit< tt) (numbered-no 3 _ _ (lit< tt) (numbered-no 6 _ _ (lit< tt) numbered-nil))
+
+-- what was written was not refused
+pub write-allowed : (ws xs : List ℕ) (k w : ℕ) (lent : List ℕ) → seenWrite ws xs k w lent .0 .no ≡ 0 → Allowed (writeRefusals ws xs k w (length lent))
+write-allowed ws xs k w lent z =
+    none-applies (writeRefusals ws xs k w (length lent)) (numbered ws xs k w (length lent)) (sym (lowest ws xs k w lent) ∙ z)
+
+when : (ws xs : List ℕ) (k w : ℕ) (lent : List ℕ) → When ws xs k w lent (seenWrite ws xs k w lent .0 .no)
+unfolding firstOf
+when ws xs k w lent =
+    subst (When ws xs k w lent) (sym (lowest ws xs k w lent))
+    (which (record { numbers = (differ tt, differ tt, differ tt); rests = (differ tt, differ tt, differ tt) }) [] (refl, differ tt, differ tt, differ tt) _ _ _
+    (tested-room 65535 (lengthOf ws xs)) (tested-size (length xs) k w) (tested-room (length lent) (lengthOf ws xs)))
 
 module _ (ws xs : List ℕ) (k w : ℕ) (lent : List ℕ) (a : Allowed (writeRefusals ws xs k w (length lent))) where
   pub fitting : Callable ws xs → Fitting ws xs k w
@@ -70,7 +94,7 @@ known ws xs k w lent got v =
 settled : Settled
 settled a b a1 a2 b1 b2 ws xs k w lent c =
     settle (writeRefusals ws xs k w (length lent)) (λ o. (shownWritten o, lent)) (λ (x : Written × List ℕ). x .0 .no)
-    (numbered-no 2 _ _ (lit< tt) (numbered-no 3 _ _ (lit< tt) (numbered-no 6 _ _ (lit< tt) numbered-nil)))
+    (numbered ws xs k w (length lent))
     (a ws xs k w lent) (b ws xs k w lent) (a1 ws xs k w lent c) (b1 ws xs k w lent c) (λ al.
     known ws xs k w lent _ (a2 ws xs k w lent c al) ∙ sym (known ws xs k w lent _ (b2 ws xs k w lent c al)))
 
@@ -85,10 +109,10 @@ held = (below-nil, one-number 7 (lit< tt))
 stand-ins : StandIns
 unfolding firstOf zeros
 stand-ins = record {
-  refuses = λ op r d. r [] (7 ∷ []) 1 0 zeros (d [] (7 ∷ []) 1 0 zeros held refl .none .0);
+  refuses = λ op r d. r [] (7 ∷ []) 1 0 zeros held (d [] (7 ∷ []) 1 0 zeros held refl .none .0);
   -- the second number is 24
-  keeps = λ op r d. let z : _≡_ {A = ℕ} 0 24 = sym (ap (λ (l : List ℕ). getD l 4 0) (r [] (7 ∷ []) 1 0 zeros)) ∙ d [] (7 ∷ []) 1 0 zeros held refl .six .1 1 (lit< tt) .1 0 (lit< tt) in omega arith;
+  keeps = λ op r d. let z : _≡_ {A = ℕ} 0 24 = sym (ap (λ (l : List ℕ). getD l 4 0) (r [] (7 ∷ []) 1 0 zeros held)) ∙ d [] (7 ∷ []) 1 0 zeros held refl .six .1 1 (lit< tt) .1 0 (lit< tt) in omega arith;
 }
 
 pub promise : Promise
-promise = record { numbers = can-meet; demand1 = demand1; demand2 = demand2; settled = settled; stand-ins = stand-ins }
+promise = record { numbers = can-meet; demand1 = demand1; when = when; demand2 = demand2; settled = settled; stand-ins = stand-ins }

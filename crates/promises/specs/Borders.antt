@@ -1,15 +1,15 @@
 -- The borders of the table "Numbers for no": beside each figure of document 01 a call that meets it and a call that is one off. Where a call
 -- takes words the start is above their number, so that a call which no lower number refuses is refused by 9.
 --
---   sheet28 k w   a sheet of 28 bytes, with no word and one record, and these k and w
---   sheet36       a sheet of 36 bytes, with one word and one record, k = 1 and w = 1
---   table         the borders
---   Borders       the statement: every line is true
+--   sheet28 at k w    a sheet of 28 bytes, with no word, said to be at this place, and one record; and these k and w
+--   sheet36           a sheet of 36 bytes, with one word and one record, k = 1 and w = 1
+--   table             the borders
+--   Borders           the statement: every line is true
 use mathlib.Core.Bool.{Bool}
-use mathlib.Core.List.{List, [], _∷_}
+use mathlib.Core.List.{List, [], _∷_, _++_}
 use Prim.Native.Nat.{ℕ}
 use lib.Dec.{T, eqb}
-use lib.ListN.{replicate}
+use lib.ListN.{take, replicate}
 use Rattle.rules.specs.Width.{w64}
 use Rattle.rolls.specs.Batch.{rollBatch}
 use Rattle.lists.specs.List.{rollList}
@@ -22,9 +22,9 @@ use Rattle.sheet.specs.RunSheet.{runSheet}
 use Rattle.writer.specs.WriteSheet.{writeSheet}
 use Rattle.promises.specs.Examples.{done, refused, all}
 
-abbrev pub sheet28 : ℕ → ℕ → List ℕ
-sheet28 k w =
-    0 ∷ 0 ∷ 0 ∷ 0 ∷ 24 ∷ 0 ∷ 0 ∷ 0 ∷ 1 ∷ 0 ∷ 0 ∷ 0 ∷ 24 ∷ 0 ∷ 0 ∷ 0 ∷ k ∷ 0 ∷ 0 ∷ 0 ∷ w ∷ 0 ∷ 0 ∷ 0 ∷ 7 ∷ 0 ∷ 0 ∷ 0 ∷ []
+abbrev pub sheet28 : ℕ → ℕ → ℕ → List ℕ
+sheet28 at k w =
+    0 ∷ 0 ∷ 0 ∷ 0 ∷ at ∷ 0 ∷ 0 ∷ 0 ∷ 1 ∷ 0 ∷ 0 ∷ 0 ∷ 24 ∷ 0 ∷ 0 ∷ 0 ∷ k ∷ 0 ∷ 0 ∷ 0 ∷ w ∷ 0 ∷ 0 ∷ 0 ∷ 7 ∷ 0 ∷ 0 ∷ 0 ∷ []
 
 abbrev pub sheet36 : List ℕ
 sheet36 =
@@ -61,11 +61,18 @@ table =
     ∷ refused (rollsBehind (0 ∷ 0 ∷ 0 ∷ []) 2) 8 0
     ∷ refused (rollsBehind (replicate 16385 0) 16384) 2 0
     -- on a sheet: k is 0 or above n, w is above k; no room
-    ∷ refused (runSheet w64 (sheet28 0 0) 1) 3 0
-    ∷ refused (runSheet w64 (sheet28 1 1) 0) 6 0
-    ∷ refused (runSheet w64 (sheet28 1 2) 1) 3 0
-    ∷ refused (runSheet w64 (sheet28 2 0) 2) 3 0
+    ∷ refused (runSheet w64 (sheet28 24 0 0) 1) 3 0
+    ∷ refused (runSheet w64 (sheet28 24 1 1) 0) 6 0
+    ∷ refused (runSheet w64 (sheet28 24 1 2) 1) 3 0
+    ∷ refused (runSheet w64 (sheet28 24 2 0) 2) 3 0
+    -- sheet length in bytes, 24 to 65,535; each offset is at least 24, each area ends within the sheet
     ∷ refused (runSheet w64 [] 1) 1 0
+    ∷ refused (runSheet w64 (take 23 sheet36) 1) 1 0
+    ∷ refused (runSheet w64 (sheet28 24 1 1 ++ replicate 65507 0) 0) 6 0
+    ∷ refused (runSheet w64 (sheet28 24 1 1 ++ replicate 65508 0) 0) 1 0
+    ∷ refused (runSheet w64 (sheet28 23 1 1) 0) 1 0
+    ∷ refused (runSheet w64 (sheet28 28 1 1) 0) 6 0
+    ∷ refused (runSheet w64 (sheet28 29 1 1) 0) 1 0
     -- writing: the sheet would pass 65,535 bytes; k and w as on a sheet; no room
     ∷ refused (writeSheet [] (replicate 16377 0) 0 0 0) 3 0
     ∷ refused (writeSheet [] (replicate 16378 0) 0 0 0) 2 0
@@ -74,11 +81,12 @@ table =
     ∷ refused (writeSheet [] (0 ∷ []) 1 2 28) 3 0
     ∷ refused (writeSheet [] (0 ∷ []) 2 0 28) 3 0
     ∷ refused (writeSheet [] (0 ∷ []) 1 1 27) 6 0
-    ∷ done (writeSheet [] (7 ∷ []) 1 1 28) (sheet28 1 1) 0 0
+    ∷ done (writeSheet [] (7 ∷ []) 1 1 28) (sheet28 24 1 1) 0 0
     -- reading: k and w as on a sheet; no room for a word, no room for a record
-    ∷ eqb (seenRead (sheet28 0 0) [] (0 ∷ []) .0 .no) 3
-    ∷ eqb (seenRead (sheet28 1 2) [] (0 ∷ []) .0 .no) 3
-    ∷ eqb (seenRead (sheet28 1 1) [] [] .0 .no) 6
+    ∷ eqb (seenRead (sheet28 24 0 0) [] (0 ∷ []) .0 .no) 3
+    ∷ eqb (seenRead (sheet28 24 1 2) [] (0 ∷ []) .0 .no) 3
+    ∷ eqb (seenRead (sheet28 24 2 0) [] (0 ∷ []) .0 .no) 3
+    ∷ eqb (seenRead (sheet28 24 1 1) [] [] .0 .no) 6
     ∷ eqb (seenRead sheet36 [] (0 ∷ []) .0 .no) 6
     ∷ eqb (seenRead sheet36 (0 ∷ []) (0 ∷ []) .0 .no) 0
     ∷ eqb (seenRead [] (0 ∷ []) (0 ∷ []) .0 .no) 1

@@ -15,10 +15,13 @@
 --   Rising ns                          each number is below the next
 --   Lowest n refusals                  no refusal whose test holds has a number below n
 --   FirstIsLowest                      the statement: of refusals whose numbers rise the first that applies is the lowest
+--   Which first second third A B C Rest no    of three numbers that are looked for in this order, each tells that a sentence fails: A, B, C; where
+--                                      all three hold the number is as the rest says. So it is known of the answer when each number is given,
+--                                      whatever tests a list of refusals has
 --   FirstShort L                       the statement: number 10 names a batch of the plan; those before it have their words, and with it the
 --                                      words do not suffice
 use mathlib.Core.Path.{_≡_}
-use mathlib.Core.Logic.{_≢_}
+use mathlib.Core.Logic.{_↔_, _≢_}
 use mathlib.Core.Bool.{true, false, not}
 use mathlib.Core.List.{List, [], _∷_}
 use Prim.Native.Nat.{ℕ, _+_, _^_, _<_, _≤_}
@@ -54,6 +57,12 @@ Lowest n (r ∷ rs) = (r .applies ≡ true → n ≤ r .number) × Lowest n rs
 
 abbrev pub FirstIsLowest : Type 0
 FirstIsLowest = (refusals : List Refusal) → Rising (numbersOf refusals) → Lowest (firstOf refusals .number) refusals
+
+pub record Which (first second third : ℕ) (A B C : Type 0) (Rest : ℕ → Type 0) (number : ℕ) : Type 0 where
+  pub one : (number ≡ first) ↔ (¬ A)
+  pub two : (number ≡ second) ↔ (A × (¬ B))
+  pub three : (number ≡ third) ↔ (A × (B × (¬ C)))
+  pub rest : Rest number ↔ (A × (B × C))
 
 abbrev pub FirstShort : ℕ → Type 0
 FirstShort L = (plan : List (List ℕ)) (words : List ℕ) (start k : ℕ) → run L plan words start ≡ short k

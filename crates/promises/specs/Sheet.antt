@@ -6,15 +6,18 @@
 --   Sound                             the test of number 1 is the sentence of document 01
 --   Fits                              the words of a sheet are below 2^64 and its records below 2^32, so that demand 2 of a sheet is Lemire's
 --                                     method on the sheet's own words
+--   RightSize n k w                   k and w are right on a sheet of n records, as document 01 says it
+--   When s lent no                    which number is given: 1 where the sheet is not sound, then 3 where k and w are not right, then 6 where the
+--                                     lent list is too short; else none, or 10
 --   answerOf d                        the answer without the six numbers
 --   Refuses, Draws, Gives W s lent got    demands 1 and 2, of one call and what the caller got: the sample from start 0 of the sheet's words
 --                                     and records, by the very demand of the sample; and the six numbers come back with it
 --   Demand1 W op, Demand2 W op        the demands, on every call
 --   Settled W, StandIns W, Promise W  as of one batch
 use mathlib.Core.Path.{_≡_}
-use mathlib.Core.Logic.{_↔_, _≢_}
+use mathlib.Core.Logic.{_↔_, _⊎_, _≢_}
 use mathlib.Core.List.{List, [], _∷_, _++_}
-use Prim.Native.Nat.{ℕ, _^_}
+use Prim.Native.Nat.{ℕ, _^_, _≤_}
 use lib.Dec.{T}
 use lib.ListN.{length, take, drop}
 use Rattle.rules.specs.Order.{AllBelow}
@@ -22,12 +25,12 @@ use Rattle.rules.specs.Reservoir.{reservoir}
 use Rattle.rules.specs.Width.{Width}
 use Rattle.answers.specs.declared.answer.Answer.{Answer}
 use Rattle.draws.specs.Sample.{samplePlan}
-use Rattle.sheet.specs.Sheet.{numbers, wordsOf, recordsOf, isSound}
+use Rattle.sheet.specs.Sheet.{Numbers, numbers, wordsOf, recordsOf, isSound}
 use Rattle.sheet.specs.Sheet as sheet
 use Rattle.sheet.specs.ReadSheet.{drawnBy, shownDrawn}
 use Rattle.sheet.specs.RunSheet.{sheetRefusals, seenSheet}
 use Rattle.sheet.specs.declared.read.Drawn.{Drawn}
-use Rattle.promises.specs.Demand1.{AsRefused, numbersOf}
+use Rattle.promises.specs.Demand1.{AsRefused, Which, numbersOf}
 use Rattle.promises.specs.Demand2.{Allowed, ByMethod}
 
 abbrev pub Op : Type 0
@@ -44,6 +47,14 @@ Sound = (s : List ℕ) → T (isSound s) ↔ sheet.Sound s
 
 abbrev pub Fits : Type 0
 Fits = (s : List ℕ) → Bytes s → AllBelow (2 ^ 64) (wordsOf s) × AllBelow (2 ^ 32) (recordsOf s)
+
+abbrev pub RightSize : ℕ → ℕ → ℕ → Type 0
+RightSize n k w = (1 ≤ k) × (k ≤ n) × (w ≤ k)
+
+abbrev pub When : List ℕ → List ℕ → ℕ → Type 0
+When s lent number =
+    let h : Numbers = numbers s in
+    Which 1 3 6 (sheet.Sound s) (RightSize (h .records) (h .k) (h .w)) (h .k ≤ length lent) (λ n. (n ≡ 0) ⊎ (n ≡ 10)) number
 
 abbrev pub answerOf : Drawn → Answer
 answerOf d = record { no = d .no; next = d .next; rejected = d .rejected; batch = d .batch }
@@ -78,6 +89,7 @@ pub record Promise (W : Width) : Type 0 where
   pub sound : Sound
   pub fits : Fits
   pub demand1 : Demand1 W (seenSheet W)
+  pub when : (s lent : List ℕ) → Bytes s → When s lent (seenSheet W s lent .0 .no)
   pub demand2 : Demand2 W (seenSheet W)
   pub settled : Settled W
   pub stand-ins : StandIns W

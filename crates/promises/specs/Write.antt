@@ -8,19 +8,22 @@
 --   CanMeet                                the numbers that it can meet, in the order of document 02
 --   Refuses, Writes, Gives ws xs k w lent got    demands 1 and 2, of one call and what the caller got: each byte of the sheet by the number
 --                                          that stands there; the bytes past it as they were
+--   When ws xs k w lent no                 which number is given: 2 where the sheet would pass 65,535 bytes, then 3 as on a sheet, then 6 where it
+--                                          does not fit the list; else none
 --   Demand1 op, Demand2 op                 the demands, on every call
 --   Settled, StandIns, Promise             as of one batch
 use mathlib.Core.Path.{_≡_}
 use mathlib.Core.Logic.{_≢_}
 use mathlib.Core.List.{List, [], _∷_}
-use Prim.Native.Nat.{ℕ, _+_, _*_, _^_}
+use Prim.Native.Nat.{ℕ, _+_, _*_, _^_, _≤_}
 use lib.ListN.{length, drop}
 use Rattle.rules.specs.Order.{AllBelow}
 use Rattle.areas.specs.Pinned.{Area}
 use Rattle.writer.specs.WriteSheet.{writeRefusals, shownWritten, seenWrite}
 use Rattle.writer.specs.declared.write.Written.{Written}
-use Rattle.promises.specs.Demand1.{AsRefused, numbersOf}
+use Rattle.promises.specs.Demand1.{AsRefused, Which, numbersOf}
 use Rattle.promises.specs.Demand2.{Allowed}
+use Rattle.promises.specs.Sheet.{RightSize}
 
 abbrev pub Op : Type 0
 Op = List ℕ → List ℕ → ℕ → ℕ → List ℕ → Written × List ℕ
@@ -45,6 +48,11 @@ pub record Writes (ws xs : List ℕ) (k w : ℕ) (lent : List ℕ) (got : Writte
 abbrev pub Gives : List ℕ → List ℕ → ℕ → ℕ → List ℕ → Written × List ℕ → Type 0
 Gives ws xs k w lent got = Allowed (writeRefusals ws xs k w (length lent)) → Writes ws xs k w lent got
 
+abbrev pub When : List ℕ → List ℕ → ℕ → ℕ → List ℕ → ℕ → Type 0
+When ws xs k w lent number =
+    let long : ℕ = 24 + 8 * length ws + 4 * length xs in
+    Which 2 3 6 (long ≤ 65535) (RightSize (length xs) k w) (long ≤ length lent) (λ n. n ≡ 0) number
+
 abbrev pub Demand1 : Op → Type 0
 Demand1 op = (ws xs : List ℕ) (k w : ℕ) (lent : List ℕ) → Callable ws xs → Refuses ws xs k w lent (op ws xs k w lent)
 
@@ -57,13 +65,14 @@ Settled = (a b : Op) → Demand1 a → Demand2 a → Demand1 b → Demand2 b →
 
 pub record StandIns : Type 0 where
   -- refusing every call
-  pub refuses : (op : Op) → ((ws xs : List ℕ) (k w : ℕ) (lent : List ℕ) → op ws xs k w lent .0 .no ≢ 0) → ¬ Demand2 op
+  pub refuses : (op : Op) → ((ws xs : List ℕ) (k w : ℕ) (lent : List ℕ) → Callable ws xs → op ws xs k w lent .0 .no ≢ 0) → ¬ Demand2 op
   -- writing nothing
-  pub keeps : (op : Op) → ((ws xs : List ℕ) (k w : ℕ) (lent : List ℕ) → op ws xs k w lent .1 ≡ lent) → ¬ Demand2 op
+  pub keeps : (op : Op) → ((ws xs : List ℕ) (k w : ℕ) (lent : List ℕ) → Callable ws xs → op ws xs k w lent .1 ≡ lent) → ¬ Demand2 op
 
 pub record Promise : Type 0 where
   pub numbers : CanMeet
   pub demand1 : Demand1 seenWrite
+  pub when : (ws xs : List ℕ) (k w : ℕ) (lent : List ℕ) → When ws xs k w lent (seenWrite ws xs k w lent .0 .no)
   pub demand2 : Demand2 seenWrite
   pub settled : Settled
   pub stand-ins : StandIns

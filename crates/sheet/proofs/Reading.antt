@@ -1,6 +1,7 @@
 -- Reading a sheet, refusal by refusal. Assumes nothing.
 --
 --   length-words, length-records   a sheet has as many words and records as its numbers say
+--   right-size, size-right         number 3 does not apply exactly where k and w are right
 --   Read                           what comes of reading, for whatever is read
 --   read-unsound                   a sheet that is not sound is refused by 1
 --   read-size                      a sound sheet to which number 3 applies is refused by 3
@@ -15,10 +16,11 @@ use Prim.Native.Nat.{ℕ, _<_, _≤_}
 use native.Mathlib.Omega.{arith}
 use lib.Dec.{ltb}
 use lib.ListN.{length, drop}
-use borrow.Author.Tests.{lt-ltb, le-ltb, not-false}
+use borrow.Author.Tests.{lt-ltb, le-ltb, ltb-false, not-false}
+use Rattle.rules.proofs.Facts.{or-left, or-right}
 use Rattle.rules.specs.Run.{next, rejected}
-use Rattle.answers.specs.Outcome.{Outcome, refused, done, Refusal, no, decide, left}
-use Rattle.answers.proofs.Deciding.{decide-here, decide-past, decide-none, decide-under}
+use Rattle.answers.specs.Outcome.{Outcome, refused, done, no, decide, outside, left}
+use Rattle.answers.proofs.Deciding.{decide-here, decide-past, decide-none, decide-under, in-count}
 use Rattle.areas.specs.Area.{entries}
 use Rattle.areas.proofs.Reading.{length-entries}
 use Rattle.sheet.specs.Sheet.{numbers, wordsOf, recordsOf, isSound, wrongSize}
@@ -31,6 +33,16 @@ length-words s = length-entries 8 (numbers s .words) (numbers s .wordsAt) s
 
 pub length-records : (s : List ℕ) → length (recordsOf s) ≡ numbers s .records
 length-records s = length-entries 4 (numbers s .records) (numbers s .recordsAt) s
+
+-- ---- k and w
+
+pub right-size : (n k w : ℕ) → wrongSize n k w ≡ false → (1 ≤ k) × (k ≤ n) × (w ≤ k)
+right-size n k w e =
+    let f : outside 1 n k ≡ false = or-left _ _ e in
+    (ltb-false k 1 (or-left _ _ f), ltb-false n k (or-right (ltb k 1) _ f), ltb-false k w (or-right (outside 1 n k) _ e))
+
+pub size-right : (n k w : ℕ) → (1 ≤ k) × (k ≤ n) × (w ≤ k) → wrongSize n k w ≡ false
+size-right n k w v = ap₂ _||_ (in-count 1 n k (v .0) (v .1)) (le-ltb k w (v .2))
 
 -- ---- the refusals
 

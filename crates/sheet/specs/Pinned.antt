@@ -3,19 +3,20 @@
 --
 --   Header h s           the six numbers h stand at the places 0, 4, 8, 12, 16, 20
 --   bytes24, numbers24   a header of 24 different bytes, and its numbers
---   SheetPinned          the statement: the numbers that stand there are those that are read, and come back; and with both areas empty a sheet is sound by
---                        its length and its offsets alone
+--   SheetPinned          the statement: the numbers that stand there are those that are read, and come back; when a sheet is sound, and its k
+--                        and w are right, in figures
 use mathlib.Core.Path.{_≡_}
-use mathlib.Core.Logic.{_↔_}
+use mathlib.Core.Logic.{_↔_, _⊎_}
+use mathlib.Core.Bool.{false}
 use mathlib.Core.List.{List, [], _∷_}
-use Prim.Native.Nat.{ℕ, _≤_}
+use Prim.Native.Nat.{ℕ, _+_, _*_, _≤_}
 use lib.Dec.{T}
 use lib.ListN.{length}
 use Rattle.answers.specs.Outcome.{refused}
 use Rattle.areas.specs.Area.{number}
 use Rattle.areas.specs.Pinned.{Stands, Area}
 use Rattle.sheet.specs.ReadSheet.{drawnBy, shownDrawn}
-use Rattle.sheet.specs.Sheet.{Numbers, numbers, wordsOf, recordsOf, isSound}
+use Rattle.sheet.specs.Sheet.{Numbers, numbers, wordsOf, recordsOf, isSound, wrongSize}
 
 pub record Header (h : Numbers) (s : List ℕ) : Type 0 where
   pub long : 24 ≤ length s
@@ -64,8 +65,12 @@ pub record SheetPinned : Type 0 where
   -- "Words take 8 bytes, records 4, low byte first."
   pub words : (s ws : List ℕ) → length ws ≡ numbers s .words → Area 8 (numbers s .wordsAt) ws s → wordsOf s ≡ ws
   pub records : (s xs : List ℕ) → length xs ≡ numbers s .records → Area 4 (numbers s .recordsAt) xs s → recordsOf s ≡ xs
-  -- "sheet length in bytes: 24 to 65,535"; "each offset is at least 24, each area ends within the sheet"
-  pub empty : (s : List ℕ) → numbers s .words ≡ 0 → numbers s .records ≡ 0
-      → T (isSound s)
-      ↔ ((24 ≤ length s) × (length s ≤ 65535) × (24 ≤ numbers s .wordsAt) × (numbers s .wordsAt ≤ length s) × (24 ≤ numbers s .recordsAt)
-      × (numbers s .recordsAt ≤ length s))
+  -- "sheet length in bytes: 24 to 65,535"; "each offset is at least 24, each area ends within the sheet, and the areas share no byte": an empty
+  -- area has none, and of two others one stands before the other
+  pub sound : (s : List ℕ) → let h : Numbers = numbers s in
+      T (isSound s)
+      ↔ ((24 ≤ length s) × (length s ≤ 65535) × (24 ≤ h .wordsAt) × (24 ≤ h .recordsAt) × (h .wordsAt + 8 * h .words ≤ length s)
+      × (h .recordsAt + 4 * h .records ≤ length s)
+      × ((h .words ≡ 0) ⊎ ((h .records ≡ 0) ⊎ ((h .wordsAt + 8 * h .words ≤ h .recordsAt) ⊎ (h .recordsAt + 4 * h .records ≤ h .wordsAt)))))
+  -- "3 Sample: k is 0 or above n; on a sheet, w is above k"
+  pub size : (n k w : ℕ) → (wrongSize n k w ≡ false) ↔ ((1 ≤ k) × (k ≤ n) × (w ≤ k))

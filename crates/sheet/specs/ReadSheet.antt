@@ -1,5 +1,5 @@
--- Reading a draw sheet: its refusals in the order of document 02, what it holds, and what its caller sees. Whether the words suffice for a
--- draw is not looked at.
+-- Reading a draw sheet: its refusals in their order, what it holds, and what its caller sees. Whether the words suffice for a draw is not
+-- looked at.
 --
 --   unreadable s                          numbers 1 and 3, which any operation on a sheet can meet before all others
 --   readRefusals s wordRoom recordRoom    the numbers that reading can meet, each with its test

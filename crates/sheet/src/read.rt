@@ -13,17 +13,17 @@ ghost use Rattle.sheet.specs.Sheet.{isSound, wrongSize};
 ghost use Rattle.sheet.specs.ReadSheet.{drawnBy, shownDrawn, seenRead};
 
 // The places of the six numbers, each of 4 bytes.
-const WORD_COUNT: usize = 0;
+pub const WORD_COUNT: usize = 0;
 
-const WORDS_AT: usize = 4;
+pub const WORDS_AT: usize = 4;
 
-const RECORD_COUNT: usize = 8;
+pub const RECORD_COUNT: usize = 8;
 
-const RECORDS_AT: usize = 12;
+pub const RECORDS_AT: usize = 12;
 
-const K: usize = 16;
+pub const K: usize = 16;
 
-const W: usize = 20;
+pub const W: usize = 20;
 
 // The bytes of the six numbers: the least length of a sheet, and the least offset of an area.
 pub const HEADER: usize = 24;
@@ -62,7 +62,7 @@ fn share_byte(from: usize, to: usize, start: usize, end: usize) -> bool
 
 // Whether the sheet is sound: its length is allowed, each offset is at least 24, each area ends within the sheet, and the areas
 // share no byte. The sums are of 64 bits, which hold 8 * count for every count.
-pub fn is_sound(sheet: &[u8]) -> bool
+fn is_sound(sheet: &[u8]) -> bool
     ensures { λ r. ⌜ r ≡ isSound (now (sheet .entry)) ⌝ }
 {
     let length = sheet.len();

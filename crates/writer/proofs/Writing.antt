@@ -6,7 +6,6 @@
 --   write-done     and else it is written
 --   refused-write  what the caller sees of a refusal
 --   done-write     what the caller sees of a sheet that was written
---   right-size     k and w of a sheet to which number 3 does not apply
 use mathlib.Core.Path.{_≡_, refl, sym, ap, _∙_}
 use mathlib.Core.Bool.{true, false}
 use mathlib.Core.List.{List, [], _++_, append-assoc}
@@ -14,11 +13,10 @@ use Prim.Native.Nat.{ℕ, _+_, _*_, _<_, _≤_}
 use native.Mathlib.Omega.{arith}
 use lib.Dec.{ltb}
 use lib.ListN.{length, drop, length-append}
-use borrow.Author.Tests.{lt-ltb, le-ltb, ltb-false}
+use borrow.Author.Tests.{lt-ltb, le-ltb}
 use Rattle.rules.specs.Put.{put}
-use Rattle.rules.proofs.Facts.{or-left, or-right}
 use Rattle.rules.proofs.Writing.{put-put}
-use Rattle.answers.specs.Outcome.{Outcome, refused, done, outside, left}
+use Rattle.answers.specs.Outcome.{refused, done, left}
 use Rattle.answers.proofs.Deciding.{decide-here, decide-past, decide-none}
 use Rattle.areas.specs.Area.{area}
 use Rattle.areas.proofs.Laying.{length-area}
@@ -80,10 +78,3 @@ module _ (ws xs : List ℕ) (k w : ℕ) where
       f ∙ ap (λ (n : ℕ). record { no = 0; next = 0; rejected = 0; length = n }) (sym (length-written ws xs k w)) ∙ ap shownWritten (sym e),
       third ∙ ap (λ (l : List ℕ). put l (24 + 8 * length ws) (area 4 xs)) (second ∙ ap (λ (l : List ℕ). put l 24 (area 8 ws)) first) ∙ parts lent room ∙ ap (left lent) (sym e),
     )
-
--- ---- k and w
-
-pub right-size : (n k w : ℕ) → wrongSize n k w ≡ false → (1 ≤ k) × (k ≤ n) × (w ≤ k)
-right-size n k w e =
-    let f : outside 1 n k ≡ false = or-left _ _ e in
-    (ltb-false k 1 (or-left _ _ f), ltb-false n k (or-right (ltb k 1) _ f), ltb-false k w (or-right (outside 1 n k) _ e))

@@ -1,6 +1,6 @@
 -- Writing a draw sheet: its refusals in the order of document 02, the bytes that are written, and what its caller sees.
 --
---   lengthOf ws xs                  the bytes of a sheet of these words and records with no gap
+--   lengthOf ws xs                  how many bytes a sheet of these words and records has, with no gap
 --   header m n k w                  the six numbers of a sheet of m words and n records
 --   written ws xs k w               the sheet: six numbers, the words at 24, the records straight after
 --   writeRefusals ws xs k w room    the numbers that writing can meet, each with its test

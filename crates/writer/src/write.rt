@@ -4,9 +4,15 @@ use areas::write::write_number;
 use areas::write::write_records;
 use areas::write::write_words;
 use sheet::read::HEADER;
+use sheet::read::K;
 use sheet::read::MAX_SHEET;
+use sheet::read::RECORD_COUNT;
+use sheet::read::RECORDS_AT;
 use sheet::read::SHEET_RECORDS;
 use sheet::read::SHEET_WORDS;
+use sheet::read::W;
+use sheet::read::WORD_COUNT;
+use sheet::read::WORDS_AT;
 use sheet::read::wrong_size;
 ghost use mathlib.Core.Path.{_≡_};
 ghost use Prim.Native.Nat.{_+_, _*_, _≤_};
@@ -17,7 +23,7 @@ ghost use Rattle.answers.specs.Outcome.{refused};
 ghost use Rattle.areas.specs.Area.{area};
 ghost use Rattle.writer.specs.WriteSheet.{header, shownWritten, seenWrite};
 
-// The answer of a sheet's writer: the bytes of the sheet. It uses no word: next and rejected are 0.
+// The answer of a sheet's writer: how many bytes the sheet has. It uses no word: next and rejected are 0.
 #[repr(C)]
 pub struct Written {
     pub no: u64,
@@ -41,16 +47,16 @@ fn too_long(words: usize, records: usize) -> bool
 }
 
 // Puts the six numbers in front of the sheet: the words stand behind them, the records behind the words.
-fn write_header(sheet: &mut [u8], words: u32, records: u32, k: u32, w: u32)
-    requires { ⌜ (24 ≤ length (now sheet)) × (words ≤ 8188) ⌝ }
+fn write_header(sheet: &mut [u8], words: u32, records: u32, records_at: u32, k: u32, w: u32)
+    requires { ⌜ (24 ≤ length (now sheet)) × («records_at» ≡ 24 + 8 * words) ⌝ }
     ensures { λ r. ⌜ now (sheet .exit) ≡ put (now (sheet .entry)) 0 (area 4 (header words records k w)) ⌝ }
 {
-    write_number(sheet, 0, words);
-    write_number(sheet, 4, 24);
-    write_number(sheet, 8, records);
-    write_number(sheet, 12, 24 + 8 * words);
-    write_number(sheet, 16, k);
-    write_number(sheet, 20, w);
+    write_number(sheet, WORD_COUNT, words);
+    write_number(sheet, WORDS_AT, HEADER as u32);
+    write_number(sheet, RECORD_COUNT, records);
+    write_number(sheet, RECORDS_AT, records_at);
+    write_number(sheet, K, k);
+    write_number(sheet, W, w);
 }
 
 // A refusal: its number, and zeros elsewhere.
@@ -89,7 +95,14 @@ pub fn write_sheet(words: &[u64], records: &[u32], k: usize, w: usize, sheet: &m
     if sheet.len() < length {
         return refused_written(refusal::ROOM);
     }
-    write_header(sheet, m as u32, n as u32, k as u32, w as u32);
+    write_header(
+        sheet,
+        m as u32,
+        n as u32,
+        records_at as u32,
+        k as u32,
+        w as u32,
+    );
     write_words(sheet, HEADER, words);
     write_records(sheet, records_at, records);
     Written {

@@ -1,7 +1,10 @@
 -- `writer::write::write_header` meets its contract. It turns on one law, number by number: the bytes of those so far are put, and the next are
 -- put behind them. Assumes nothing.
-use native.Mathlib.Omega.{arith}
+use mathlib.Core.Path.{ap, _∙_}
+use Prim.Native.Nat.{ℕ}
 use lib.Dec.{lit<, lit≤}
+use Rattle.rules.specs.Put.{put}
+use Rattle.areas.specs.Area.{bytesOf}
 use Rattle.areas.proofs.Putting.{laid-none, laid-turn, laid-whole}
 use Rattle.writer.specs.WriteSheet.{header}
 use borrow.Author.Needs.{needs}
@@ -11,17 +14,14 @@ use Rattle.writer.proofs.write.write_header.Tie as tie
 write-number-requires : tie.Need-write-number-requires
 write-number-requires c κs = search needs
 
+cast-write-number : tie.Need-cast-write-number
+cast-write-number c = search needs
+
 write-number-requires-2 : tie.Need-write-number-requires-2
 write-number-requires-2 c κs = search needs
 
 write-number-requires-3 : tie.Need-write-number-requires-3
 write-number-requires-3 c κs = search needs
-
-mul-write-number : tie.Need-mul-write-number
-mul-write-number c = search needs
-
-add-write-number : tie.Need-add-write-number
-add-write-number c = search needs
 
 write-number-requires-4 : tie.Need-write-number-requires-4
 write-number-requires-4 c κs = search needs
@@ -49,7 +49,7 @@ returns c =
     let one = laid-turn (laid-none {size = 4} {before = a .sheet .now} {at = 0} {xs = header (a .words) (a .records) (a .k) (a .w)}) (lit< tt) room (after1 .write-number .ensures) in
     let two = laid-turn one (lit< tt) room (after2 .write-number2 .ensures) in
     let three = laid-turn two (lit< tt) room (after3 .write-number3 .ensures) in
-    let four = laid-turn three (lit< tt) room (after4 .write-number4 .ensures) in
+    let four = laid-turn three (lit< tt) room (after4 .write-number4 .ensures ∙ ap (λ (n : ℕ). put (after3 .write-number3 .last .0) 12 (bytesOf 4 n)) (start .pre .1)) in
     let five = laid-turn four (lit< tt) room (after5 .write-number5 .ensures) in
     laid-whole (laid-turn five (lit< tt) room (after6 .write-number6 .ensures)) (lit≤ tt)
 
@@ -58,10 +58,9 @@ write-header-spec =
     tie.close
     (tie.spec
     write-number-requires
+    cast-write-number
     write-number-requires-2
     write-number-requires-3
-    mul-write-number
-    add-write-number
     write-number-requires-4
     write-number-requires-5
     write-number-requires-6

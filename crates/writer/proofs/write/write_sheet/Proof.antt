@@ -8,8 +8,9 @@ use lib.Dec.{ltb}
 use lib.ListN.{length}
 use borrow.Author.Tests.{ltb-false}
 use Rattle.sheet.specs.Sheet.{wrongSize}
+use Rattle.sheet.proofs.Reading.{right-size}
 use Rattle.writer.specs.WriteSheet.{lengthOf}
-use Rattle.writer.proofs.Writing.{write-long, write-size, write-room, write-done, refused-write, done-write, right-size}
+use Rattle.writer.proofs.Writing.{write-long, write-size, write-room, write-done, refused-write, done-write}
 use borrow.Author.Needs.{needs}
 use Rattle.writer.proofs.write.write_sheet.Statement.{statement}
 use Rattle.writer.proofs.write.write_sheet.Tie as tie
@@ -92,6 +93,9 @@ cast-write-header-3 c = let l = short (c .before .before .before .before) in let
 cast-write-header-4 : tie.Need-cast-write-header-4
 cast-write-header-4 c = let l = short (c .before .before .before .before) in let f = fits (c .before .before) in search needs
 
+cast-write-header-5 : tie.Need-cast-write-header-5
+cast-write-header-5 c = let l = short (c .before .before .before .before) in let f = fits (c .before .before) in search needs
+
 write-header-requires : tie.Need-write-header-requires
 write-header-requires c κs = let l = short (c .before .before .before .before) in search needs
 
@@ -138,6 +142,7 @@ write-sheet-spec =
     cast-write-header-2
     cast-write-header-3
     cast-write-header-4
+    cast-write-header-5
     write-header-requires
     write-words-requires
     write-records-requires
