@@ -9,8 +9,8 @@
  * `next` (0 where the call takes none) and zeros elsewhere, except that HILDRASP_WORDS also names the first batch, from
  * 0, that got no word. Every lent list is then exactly what it was.
  *
- * Calls use the stack alone: hildrasp_sample about 256 KiB of it, hildrasp_run_sheet 384 KiB, hildrasp_rolls_behind
- * 64 KiB, the others little.
+ * Calls use the stack alone: hildrasp_sample about 256 KiB of it, hildrasp_run_sheet 384 KiB, hildrasp_why 400 KiB,
+ * hildrasp_rolls_behind 64 KiB, the others little.
  */
 #ifndef HILDRASP_H
 #define HILDRASP_H
@@ -30,7 +30,8 @@ enum {
     HILDRASP_ZERO = 4,    /* some bound is 0 */
     HILDRASP_PRODUCT = 5, /* product of one batch above 2^64 */
     HILDRASP_ROOM = 6,    /* the lent result list is too short */
-    HILDRASP_MISFIT = 7,  /* rolls and bounds differ in count, or a roll reaches its bound */
+    HILDRASP_MISFIT = 7,  /* rolls and bounds differ in count, or a roll reaches its bound; the place isn't below the
+                             count of records */
     HILDRASP_ORDER = 8,   /* the list isn't each of 0..n - 1 once */
     HILDRASP_START = 9,   /* start place above the number of words */
     HILDRASP_WORDS = 10   /* the list ends before some batch has an accepted word */
@@ -84,6 +85,26 @@ typedef struct {
     size_t length; /* in bytes */
 } hildrasp_written;
 
+/*
+ * Why a record was drawn or not: the one reason that is true in this draw. Fields that do not apply are 0.
+ *
+ * 1: it was among the first k and stayed in its slot.
+ * 2: it was rolled into a slot at its step and stayed there.
+ * 3: it held a slot until a later record took that slot; the first such record is named.
+ * 4: its own roll was k or more.
+ */
+typedef struct {
+    uint64_t no;
+    size_t next;
+    size_t rejected;
+    size_t batch;
+    uint64_t reason; /* 1 to 4, 0 on a refusal */
+    size_t slot;     /* at reasons 1, 2 and 3, from 0 */
+    size_t by_place; /* at reason 3, the place of the record that took the slot */
+    size_t by_step;  /* at reason 3, the step of that record: place i has step i - k */
+    uint64_t roll;   /* at reason 4, the record's own roll */
+} hildrasp_reason;
+
 /* Rolls one batch of 1 to 16 bounds. Refusals: 2, 4, 5, 9, 10. */
 hildrasp_batch hildrasp_roll_batch(const uint64_t *words, size_t word_count, size_t start,
                                    const uint64_t *bounds, size_t bound_count);
@@ -130,6 +151,15 @@ hildrasp_written hildrasp_write_sheet(const uint64_t *words, size_t word_count,
  */
 hildrasp_drawn hildrasp_read_sheet(const uint8_t *sheet, size_t byte_count,
                                    uint64_t *words, size_t word_room, uint32_t *records, size_t record_room);
+
+/*
+ * Tells why the record at a place, from 0, of a draw sheet of 24 to 65,535 bytes was drawn or not, in the draw that
+ * hildrasp_run_sheet runs; `next` and `rejected` are those of the draw. It goes by place, since record numbers may
+ * repeat. Refusals: 1, 3, 7 where the place isn't below the count of records, 10. Cost: linear in the counts of words
+ * and records: the sheet is read once, the words are gone over in one dry run, each roll is made once, and one pass
+ * over the rolls finds the reason; with about 400 KiB of stack.
+ */
+hildrasp_reason hildrasp_why(const uint8_t *sheet, size_t byte_count, size_t place);
 
 #ifdef __cplusplus
 }

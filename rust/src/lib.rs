@@ -14,11 +14,13 @@
 pub mod oracle;
 #[allow(unsafe_code)]
 pub mod raw;
+mod reason;
 mod refusal;
 
 use std::ops::RangeInclusive;
 
 pub use raw::Numbers;
+pub use reason::Reason;
 pub use refusal::Refusal;
 
 /// The words that an operation used. Words used are batches plus rejected words.
@@ -53,6 +55,15 @@ pub struct Draw {
     pub used: Used,
     /// The six numbers that the sheet starts with.
     pub numbers: Numbers,
+}
+
+/// Why a record was drawn or not: the words that the draw used, and the reason.
+#[derive(Debug, Clone, Copy, PartialEq, Eq)]
+pub struct Explanation {
+    /// The words that the draw used.
+    pub used: Used,
+    /// The one reason that is true in the draw.
+    pub reason: Reason,
 }
 
 /// Rolls one batch: one word gives a roll for each of 1 to 16 bounds, whose product is at most 2^64.
@@ -337,6 +348,53 @@ pub fn read_sheet(sheet: &[u8], words: &mut [u64], records: &mut [u32]) -> Resul
     match Refusal::given(no, 0) {
         Some(refusal) => Err(refusal),
         None => Ok(numbers),
+    }
+}
+
+/// Tells why the record at a place of a draw sheet, from 0, was drawn or not: the one [`Reason`] that is true in the
+/// draw that [`run_sheet`] runs. It goes by place, since record numbers may repeat.
+///
+/// The first k records are put in the slots of their own places. The record at a later place i is rolled at step i - k,
+/// and takes the slot that is its roll, if that is below k. A record holds its slot until a later one takes it; the
+/// first that does is named.
+///
+/// **Words used:** those of the sheet, as [`run_sheet`] uses them.
+///
+/// **Refusals, in this order:** 1 [`Sheet`](Refusal::Sheet), 3 [`Sample`](Refusal::Sample),
+/// 7 [`Misfit`](Refusal::Misfit) where the place isn't below the count of records, 10 [`Words`](Refusal::Words).
+///
+/// **Cost:** linear in the count of words and the count of records: a copy of each, in arrays of the most that a sheet
+/// holds; one dry run over the words; each roll made once; one pass over the rolls.
+///
+/// Under the same rules the answer to the same sheet and place never changes.
+///
+/// ```
+/// use hildrasp::{Reason, Refusal};
+///
+/// // Two of four records by one word, 5 x 2^61. Record 307 has bound 3: 15 x 2^61 is 1 times 2^64 plus 7 x 2^61, so
+/// // its roll is 1, and it takes slot 1. Record 409 has bound 4: 28 x 2^61 is 3 times 2^64 plus 2^63, so its roll is
+/// // 3, and it takes none.
+/// let mut sheet = [0; 48];
+/// hildrasp::write_sheet(&[5 << 61], &[101, 205, 307, 409], 2, 1, &mut sheet)?;
+/// assert_eq!(hildrasp::why(&sheet, 0)?.reason, Reason::Stayed { slot: 0 });
+/// assert_eq!(hildrasp::why(&sheet, 1)?.reason, Reason::Taken { slot: 1, by_place: 2, by_step: 0 });
+/// assert_eq!(hildrasp::why(&sheet, 2)?.reason, Reason::RolledIn { slot: 1 });
+/// assert_eq!(hildrasp::why(&sheet, 3)?.reason, Reason::PassedOver { roll: 3 });
+/// assert_eq!(hildrasp::why(&sheet, 4), Err(Refusal::Misfit));
+///
+/// // So the draw is 101 and 307.
+/// let mut slots = [0; 2];
+/// let draw = hildrasp::run_sheet(&sheet, &mut slots)?;
+/// assert_eq!(slots, [101, 307]);
+/// assert_eq!(hildrasp::why(&sheet, 3)?.used, draw.used);
+/// # Ok::<(), Refusal>(())
+/// ```
+pub fn why(sheet: &[u8], place: usize) -> Result<Explanation, Refusal> {
+    let answer = raw::why(sheet, place);
+    let raw::Reason { no, next, rejected, batch, .. } = answer;
+    match Refusal::given(no, batch) {
+        Some(refusal) => Err(refusal),
+        None => Ok(Explanation { used: Used { next, rejected }, reason: Reason::given(answer) }),
     }
 }
 

@@ -95,6 +95,30 @@ pub struct Written {
     pub length: usize,
 }
 
+/// Why a record was drawn or not: the one reason that is true in the draw. Fields that do not apply are 0.
+#[repr(C)]
+#[derive(Debug, Clone, Copy, PartialEq, Eq, Default)]
+pub struct Reason {
+    /// The number of the refusal, 0 where nothing is refused.
+    pub no: u64,
+    /// The place after the last word that the draw used, 0 on a refusal.
+    pub next: usize,
+    /// The count of words that the draw rejected.
+    pub rejected: usize,
+    /// At number 10, the first batch, from 0, that got no word.
+    pub batch: usize,
+    /// The number of the reason: 1 stayed, 2 rolled in and stayed, 3 taken, 4 passed over; 0 on a refusal.
+    pub reason: u64,
+    /// At reasons 1, 2 and 3, the slot.
+    pub slot: usize,
+    /// At reason 3, the place of the first later record that took the slot.
+    pub by_place: usize,
+    /// At reason 3, the step of that record: place i has step i - k.
+    pub by_step: usize,
+    /// At reason 4, the record's own roll.
+    pub roll: u64,
+}
+
 extern "C" {
     fn hildrasp_roll_batch(
         words: *const u64,
@@ -158,6 +182,8 @@ extern "C" {
         records: *mut u32,
         record_room: usize,
     ) -> Drawn;
+
+    fn hildrasp_why(sheet: *const u8, byte_count: usize, place: usize) -> Reason;
 }
 
 // Safety, for every call below: each pointer and the count beside it are those of one slice, which lives through the
@@ -247,4 +273,9 @@ pub fn read_sheet(sheet: &[u8], words: &mut [u64], records: &mut [u32]) -> Drawn
             records.len(),
         )
     }
+}
+
+/// Tells why the record at a place of a draw sheet was drawn or not.
+pub fn why(sheet: &[u8], place: usize) -> Reason {
+    unsafe { hildrasp_why(sheet.as_ptr(), sheet.len(), place) }
 }

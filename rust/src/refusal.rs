@@ -18,7 +18,7 @@ pub enum Refusal {
     Product,
     /// 6: the lent result list is too short.
     Room,
-    /// 7: rolls and bounds differ in count, or a roll reaches its bound.
+    /// 7: rolls and bounds differ in count, or a roll reaches its bound; the place isn't below the count of records.
     Misfit,
     /// 8: the list isn't each of 0..n - 1 once.
     Order,
@@ -84,7 +84,10 @@ impl fmt::Display for Refusal {
             Refusal::Zero => "some bound is 0",
             Refusal::Product => "product of one batch above 2^64",
             Refusal::Room => "the lent result list is too short",
-            Refusal::Misfit => "rolls and bounds differ in count, or a roll reaches its bound",
+            Refusal::Misfit => {
+                "rolls and bounds differ in count, or a roll reaches its bound, \
+                 or the place isn't below the count of records"
+            }
             Refusal::Order => "the list isn't each of 0..n - 1 once",
             Refusal::Start => "start place above the number of words",
             Refusal::Words { batch } => {

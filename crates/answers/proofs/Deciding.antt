@@ -7,7 +7,8 @@
 --   in-count, below-count, above-count      a count in its range, or out of it
 --   OfBatch, of-batch                       numbers 2, 4 and 5, of an operation on the bounds of one batch
 --   FitBounds, fit-bounds                   bounds that none of them refuses
---   Known, supplied-enough                  what is known of a run where the dry run found the words enough
+--   Known, supplied-enough, supplied-short  what is known of a run where the dry run found the words enough, or not
+--   word-short, word-done                   number 10 alone, or none
 --   no-start                                number 9, of an operation that uses words
 --   no-words, words-done                    number 10, or none, by the run
 --   words-short, words-drawn                number 10, or none, by the answer of the dry run
@@ -137,9 +138,16 @@ pub supplied-enough : (start : ℕ) (r : Run) (to more : ℕ) → supplied start
 supplied-enough start (ran ts) to more e = record { enough = refl; place = cc; passed = cc }
 supplied-enough start (short k) to more e = clash cc
 
-supplied-short : (start : ℕ) (r : Run) (k : ℕ) → supplied start r ≡ Short k → r ≡ short k
+pub supplied-short : (start : ℕ) (r : Run) (k : ℕ) → supplied start r ≡ Short k → r ≡ short k
 supplied-short start (ran ts) k e = clash cc
 supplied-short start (short j) k e = ap short (cc)
+
+pub word-short : (r : Run) (o : Outcome) (k : ℕ) → r ≡ short k → decide (noWord r ∷ []) o ≡ refused 10 k
+word-short r o k e = decide-here _ _ _ (ap (λ (x : Run). noWord x .applies) e) ∙ ap (λ (x : Run). refused (noWord x .number) (noWord x .batch)) e
+
+pub word-done : (r : Run) (o : Outcome) → suffices r ≡ true → decide (noWord r ∷ []) o ≡ o
+word-done (ran ts) o e = decide-past _ _ _ refl ∙ decide-none o
+word-done (short k) o e = decide-past _ _ _ (sym e) ∙ decide-none o
 
 module _ (L : ℕ) (plan : List (List ℕ)) (words : List ℕ) (start : ℕ) (o : Outcome) where
   pub no-start : length words < start → decide (ofWords L plan words start) o ≡ refused 9 0
@@ -147,16 +155,10 @@ module _ (L : ℕ) (plan : List (List ℕ)) (words : List ℕ) (start : ℕ) (o 
 
   module _ (h : start ≤ length words) where
     pub no-words : (k : ℕ) → run L plan words start ≡ short k → decide (ofWords L plan words start) o ≡ refused 10 k
-    no-words k e =
-        decide-past _ _ _ (le-ltb (length words) start h) ∙ decide-here _ _ _ (ap (λ (x : Run). noWord x .applies) e)
-        ∙ ap (λ (x : Run). refused (noWord x .number) (noWord x .batch)) e
+    no-words k e = decide-past _ _ _ (le-ltb (length words) start h) ∙ word-short (run L plan words start) o k e
 
     pub words-done : suffices (run L plan words start) ≡ true → decide (ofWords L plan words start) o ≡ o
-    words-done e = decide-past _ _ _ (le-ltb (length words) start h) ∙ decide-past _ _ _ (go (run L plan words start) e) ∙ decide-none o
-      where
-        go : (x : Run) → suffices x ≡ true → noWord x .applies ≡ false
-        go (ran ts) f = refl
-        go (short k) f = sym f
+    words-done e = decide-past _ _ _ (le-ltb (length words) start h) ∙ word-done (run L plan words start) o e
 
     pub words-short : (k : ℕ) → supplied start (run L plan words start) ≡ Short k → decide (ofWords L plan words start) o ≡ refused 10 k
     words-short k e = no-words k (supplied-short start (run L plan words start) k e)

@@ -18,7 +18,7 @@ pub const PRODUCT: u64 = 5;
 // the lent result list is too short
 pub const ROOM: u64 = 6;
 
-// rolls and bounds differ in count, or a roll reaches its bound
+// rolls and bounds differ in count, or a roll reaches its bound; the place asked for is not below the count of records
 pub const MISFIT: u64 = 7;
 
 // the list isn't each of 0..n - 1 once

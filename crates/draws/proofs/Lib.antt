@@ -1,2 +1,3 @@
 pub mod OneSample
+pub mod Rolled
 pub mod Sampling

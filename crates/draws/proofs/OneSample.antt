@@ -3,22 +3,20 @@
 --   sample-count, sample-size, sample-room   numbers 2, 3 and 6
 --   sample-start, sample-short               numbers 9 and 10
 --   sample-done                              done, where none of them applies
-use mathlib.Core.Path.{_≡_, ap, _∙_}
+use mathlib.Core.Path.{_≡_, _∙_}
 use mathlib.Core.Bool.{true, false}
 use mathlib.Core.List.{List}
-use Prim.Native.Nat.{ℕ, _+_, _-_, _^_, _<_, _≤_}
+use Prim.Native.Nat.{ℕ, _<_, _≤_}
 use lib.Dec.{ltb}
-use lib.ListN.{length, take, drop}
+use lib.ListN.{length}
 use Rattle.rules.specs.Limits.{maxRecords}
 use Rattle.rules.specs.Width.{Width}
 use Rattle.rules.specs.Run.{run}
-use Rattle.rules.specs.Cut.{cut}
-use Rattle.answers.specs.Outcome.{refused, decide, outside, ofWords, fromRun}
+use Rattle.answers.specs.Outcome.{refused, decide, outside, ofWords}
 use Rattle.answers.specs.Supplied.{supplied}
 use Rattle.answers.specs.declared.supply.Supply.the-variants.{Enough, Short}
 use Rattle.answers.proofs.Deciding.{decide-here, decide-past, no-start, words-short, words-drawn}
-use Rattle.rules.specs.Reservoir.{countup, reservoir}
-use Rattle.draws.specs.Sample.{sample}
+use Rattle.draws.specs.Sample.{samplePlan, sampled, sample}
 
 module _ (W : Width) (words : List ℕ) (start : ℕ) (xs : List ℕ) (k room : ℕ) where
   pub sample-count : outside 0 maxRecords (length xs) ≡ true → sample W words start xs k room ≡ refused 2 0
@@ -36,25 +34,17 @@ module _ (W : Width) (words : List ℕ) (start : ℕ) (xs : List ℕ) (k room : 
       sample-room e = decide-past _ _ _ count ∙ decide-past _ _ _ size ∙ decide-here _ _ _ e
 
       module _ (fits : ltb room k ≡ false) where
-        plan : List (List ℕ)
-        plan = cut (W .limit) (countup (length xs - k) (k + 1))
-
-        rest : sample W words start xs k room ≡ decide (ofWords (W .bits) plan words start) (fromRun (W .bits) plan words start (reservoir (take k xs) (drop k xs)))
-        unfolding sample plan
+        rest : sample W words start xs k room ≡ decide (ofWords (W .bits) (samplePlan W (length xs) k) words start) (sampled W words start xs k)
+        unfolding sample
         rest = decide-past _ _ _ count ∙ decide-past _ _ _ size ∙ decide-past _ _ _ fits
 
         pub sample-start : length words < start → sample W words start xs k room ≡ refused 9 0
-        sample-start h = rest ∙ no-start (W .bits) plan words start _ h
+        sample-start h = rest ∙ no-start (W .bits) (samplePlan W (length xs) k) words start _ h
 
-        -- with the bounds laid out
-        module _ (h : start ≤ length words) (bs : List ℕ) (b : bs ≡ countup (length xs - k) (k + 1)) where
-          same : cut (W .limit) bs ≡ plan
-          unfolding plan
-          same = ap (cut (W .limit)) b
+        module _ (h : start ≤ length words) where
+          pub sample-short : (j : ℕ) → supplied start (run (W .bits) (samplePlan W (length xs) k) words start) ≡ Short j → sample W words start xs k room ≡ refused 10 j
+          sample-short j e = rest ∙ words-short (W .bits) (samplePlan W (length xs) k) words start _ h j e
 
-          pub sample-short : (j : ℕ) → supplied start (run (W .bits) (cut (W .limit) bs) words start) ≡ Short j → sample W words start xs k room ≡ refused 10 j
-          sample-short j e = rest ∙ words-short (W .bits) plan words start _ h j (rw (← same) e)
-
-          pub sample-done : (to more : ℕ) → supplied start (run (W .bits) (cut (W .limit) bs) words start) ≡ Enough to more
-              → sample W words start xs k room ≡ fromRun (W .bits) (cut (W .limit) bs) words start (reservoir (take k xs) (drop k xs))
-          sample-done to more e = rest ∙ rw (← same) (words-drawn (W .bits) (cut (W .limit) bs) words start (fromRun (W .bits) (cut (W .limit) bs) words start (reservoir (take k xs) (drop k xs))) h to more e)
+          pub sample-done : (to more : ℕ) → supplied start (run (W .bits) (samplePlan W (length xs) k) words start) ≡ Enough to more
+              → sample W words start xs k room ≡ sampled W words start xs k
+          sample-done to more e = rest ∙ words-drawn (W .bits) (samplePlan W (length xs) k) words start (sampled W words start xs k) h to more e

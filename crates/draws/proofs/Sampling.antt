@@ -2,10 +2,9 @@
 --
 --   Later, later-none, later-taken, later-passed,    the loop of `take_later`: the later records, each with its roll
 --     later-done
---   prefix-count, array-kept, prefix-back,           a local array, its first n places lent
---     prefix-rolls
+--   prefix-count, array-kept, prefix-back            a local array, its first n places lent
 --   slots-drawn                                      the slots in the end
---   bound-count, bounds-no-zero                      a sample of k from n records has n - k bounds, and none is 0
+--   bounds-no-zero                                   none of the bounds of a sample is 0
 use mathlib.Core.Path.{_≡_, refl, sym, ap, ap₂, _∙_}
 use mathlib.Core.Bool.{false, _||_}
 use mathlib.Core.List.{List, _∷_, _++_, append-nil}
@@ -74,10 +73,6 @@ module _ (array last : List ℕ) (n : ℕ) (h : n ≤ length array) where
   pub prefix-back : length last ≡ length (take n array) → take n (last ++ drop n array) ≡ last
   prefix-back e = take-at last (drop n array) n (e ∙ sym (prefix-count array n h))
 
-  -- the rolls that were written to the front of it
-  pub prefix-rolls : (vs : List ℕ) → last ≡ vs ++ drop n (take n array) → last ≡ vs
-  prefix-rolls vs e = e ∙ ap (λ (l : List ℕ). vs ++ l) (drop-of-length-le (take n array) {i = n} (omega (arith, prefix-count array n h))) ∙ append-nil vs
-
 -- ---- the slots in the end
 
 pub slots-drawn : (xs slots₀ slots : List ℕ) (k : ℕ) (js out : List ℕ) → k ≤ length xs → slots ≡ take k xs ++ drop k slots₀
@@ -88,9 +83,6 @@ slots-drawn xs slots₀ slots k js out h e f =
     (ap (take k) e ∙ take-at (take k xs) (drop k slots₀) k n) (ap (drop k) e ∙ drop-at (take k xs) (drop k slots₀) k n)
 
 -- ---- the bounds of a sample
-
-pub bound-count : (bs : List ℕ) (n k : ℕ) → k ≤ n → bs ≡ countup (n - k) (k + 1) → k + length bs ≡ n
-bound-count bs n k h e = omega (arith, ap length e ∙ length-countup (n - k) (k + 1))
 
 no-zero : (s i : ℕ) → 0 < i → hasZero (countup s i) ≡ false
 unfolding countup hasZero

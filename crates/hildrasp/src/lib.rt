@@ -6,6 +6,7 @@
 use answers::answer::Answer;
 use answers::answer::Batch;
 use answers::answer::Behind;
+use reasons::why::Reason;
 use sheet::read::Drawn;
 use writer::write::Written;
 ghost use mathlib.Core.Path.{_≡_};
@@ -19,6 +20,7 @@ ghost use Rattle.orders.specs.Order.{seenOrder};
 ghost use Rattle.sheet.specs.ReadSheet.{seenRead};
 ghost use Rattle.sheet.specs.RunSheet.{seenSheet};
 ghost use Rattle.writer.specs.WriteSheet.{seenWrite};
+ghost use Rattle.reasons.specs.Why.{seenWhy};
 ghost use Rattle.promises.specs.Batch as batch;
 ghost use Rattle.promises.specs.List as list;
 ghost use Rattle.promises.specs.Shuffle as shuffle;
@@ -28,6 +30,7 @@ ghost use Rattle.promises.specs.Order as orderBehind;
 ghost use Rattle.promises.specs.Sheet as sheetRun;
 ghost use Rattle.promises.specs.Read as sheetRead;
 ghost use Rattle.promises.specs.Write as sheetWritten;
+ghost use Rattle.promises.specs.Why as reason;
 
 #[no_mangle]
 pub extern "C" fn hildrasp_roll_batch(words: &[u64], start: usize, bounds: &[u64]) -> Batch
@@ -124,4 +127,12 @@ pub extern "C" fn hildrasp_read_sheet(sheet: &[u8], words: &mut [u64], records: 
     ensures demands { λ r. ⌜ sheetRead.Refuses (now (sheet .entry)) (now (words .entry)) (now (records .entry)) (r, (now (words .exit), now (records .exit))) × sheetRead.Gives (now (sheet .entry)) (now (words .entry)) (now (records .entry)) (r, (now (words .exit), now (records .exit))) ⌝ }
 {
     sheet::read::read_sheet(sheet, words, records)
+}
+
+#[no_mangle]
+pub extern "C" fn hildrasp_why(sheet: &[u8], place: usize) -> Reason
+    ensures answer { λ r. ⌜ r ≡ seenWhy w64 (now (sheet .entry)) place ⌝ }
+    ensures demands { λ r. ⌜ reason.Refuses w64 (now (sheet .entry)) place r × reason.Gives w64 (now (sheet .entry)) place r ⌝ }
+{
+    reasons::why::why(sheet, place)
 }

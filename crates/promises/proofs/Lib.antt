@@ -1,5 +1,6 @@
 pub mod Calls
 pub mod Refusing
+pub mod ThisDraw
 pub mod Which
 pub mod FirstShort
 pub mod Method
@@ -13,6 +14,7 @@ pub mod Behind
 pub mod Order
 pub mod Sheet
 pub mod Read
+pub mod Why
 pub mod Write
 pub mod RoundTrip
 pub mod Naming

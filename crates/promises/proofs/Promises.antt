@@ -20,6 +20,7 @@ use Rattle.promises.proofs.RoundTrip.{round-trip}
 use Rattle.promises.proofs.Sample as sample
 use Rattle.promises.proofs.Sheet as sheet
 use Rattle.promises.proofs.Shuffle as shuffle
+use Rattle.promises.proofs.ThisDraw as why
 use Rattle.promises.proofs.Write as write
 
 pub promises : Promises
@@ -33,6 +34,7 @@ promises = record {
   run-sheet = sheet.promise;
   write-sheet = write.promise;
   read-sheet = read.promise;
+  why = why.promise;
   round-trip = round-trip;
   lowest = first-is-lowest;
   first-short = first-short 64;

@@ -1,12 +1,15 @@
 -- Running a draw sheet: a sheet that nothing refuses is drawn as the sample of its words and records. Assumes nothing.
 --
---   fits       the words of a sheet are below 2^64 and its records below 2^32
---   promise    the promise, at 64 bits
+--   fits                                      the words of a sheet are below 2^64 and its records below 2^32
+--   ten-or-none                               past the third number nothing is given, or 10
+--   few, size, words-left, rollable, method, roll-count    what is known of a sheet whose draw nothing refuses
+--   none-refused                              nothing refuses where no number is given
+--   promise                                   the promise, at 64 bits
 use mathlib.Core.Path.{_≡_, refl, sym, ap, subst, _∙_}
 use mathlib.Core.Logic.{_⊎_, inl, inr, _≢_}
 use mathlib.Core.Bool.{Bool, false}
 use mathlib.Core.List.{List, [], _∷_, _++_}
-use Prim.Native.Nat.{ℕ, zero, suc, suc-le-suc, zero-le, _+_, _^_, _<_, _≤_}
+use Prim.Native.Nat.{ℕ, zero, suc, suc-le-suc, zero-le, _+_, _-_, _^_, _<_, _≤_}
 use native.Mathlib.Nat.{pow-succ'}
 use native.Mathlib.Omega.{arith}
 use lib.Dec.{ltb, lit≤, lit<}
@@ -21,26 +24,27 @@ use Rattle.rules.specs.Run.{Run, ran, short, run, runFrom, trace, rollsOf, next
 use Rattle.rules.specs.Width.{Width, w64}
 use Rattle.rules.proofs.Facts.{or-left, or-right}
 use Rattle.rules.proofs.Reservoir.{length-sample}
+use Rattle.rules.proofs.Rows.{length-countup}
 use Rattle.rules.proofs.Widths.{GoodWidth, good64}
 use Rattle.answers.specs.Outcome.{Outcome, Refusal, no, noWord, ofWords, outside, left}
 use Rattle.answers.specs.declared.answer.Answer.{Answer}
 use Rattle.areas.specs.Area.{little, number, entries}
 use Rattle.draws.specs.Sample.{samplePlan, sampled}
 use Rattle.sheet.specs.Sheet.{Numbers, numbers, wordsOf, recordsOf, isSound}
-use Rattle.sheet.specs.ReadSheet.{drawnBy, shownDrawn}
+use Rattle.sheet.specs.ReadSheet.{unreadable, drawnBy, shownDrawn}
 use Rattle.sheet.specs.RunSheet.{sheetRefusals, seenSheet}
 use Rattle.sheet.specs.declared.read.Drawn.{Drawn}
-use Rattle.sheet.proofs.Reading.{length-records}
+use Rattle.sheet.proofs.Reading.{length-records, right-size}
 use Rattle.sheet.proofs.Running.{sheet-flat}
 use Rattle.sheet.proofs.Soundness.{sound-known, sound-iff, sheet-records}
 use Rattle.promises.specs.Demand1.{firstOf}
-use Rattle.promises.specs.Demand2.{Allowed, ByMethod}
+use Rattle.promises.specs.Demand2.{Allowed, Lemire}
 use Rattle.promises.specs.Sheet.{Op, Bytes, CanMeet, Fits, When, answerOf, Draws, Demand1, Demand2, Settled, StandIns, Promise}
 use Rattle.promises.proofs.Calls.{below-nil, below-cons, allBelow, all-below}
-use Rattle.promises.proofs.Method.{by-method, same-seen}
-use Rattle.promises.proofs.Refusing.{as-refused, first-past, allowed-cons, allowed-done, numbered-no, numbered-word, settle, ten-last}
+use Rattle.promises.proofs.Method.{by-method, rolled-count, same-seen}
+use Rattle.promises.proofs.Refusing.{Numbered, as-refused, first-past, allowed-cons, allowed-done, numbered-no, numbered-word, settle, ten-last}
 use Rattle.promises.proofs.Sample.{plan-fits}
-use Rattle.promises.proofs.Which.{differ, which, tested-sound, tested-size, tested-room}
+use Rattle.promises.proofs.Which.{differ, neither, which, none-applies, tested-sound, tested-size, tested-room}
 
 -- ---- the words and the records of a sheet
 
@@ -75,15 +79,12 @@ demand1 W s lent b =
     as-refused (λ o. (shownDrawn s o, left lent o)) (λ o. (shownDrawn s o, lent)) (λ (x : Drawn × List ℕ). x .0 .no) (λ n b. refl) (λ n b. refl) _ refl
     (sheetRefusals W s (length lent)) (seenSheet W s lent) (ap (λ (o : Outcome). (shownDrawn s o, left lent o)) (sheet-flat W s (length lent)))
 
--- past number 6 nothing is given, or 10
-ten-or-none : (r : Run) → let n = firstOf (noWord r ∷ []) .number in ((n ≡ 0) ⊎ (n ≡ 10)) × (n ≢ 1) × (n ≢ 3) × (n ≢ 6)
+-- past the third number nothing is given, or 10
+pub ten-or-none : (third : ℕ) → (0 ≢ third) → (10 ≢ third) → (r : Run)
+    → let n = firstOf (noWord r ∷ []) .number in ((n ≡ 0) ⊎ (n ≡ 10)) × (n ≢ 1) × (n ≢ 3) × (n ≢ third)
 unfolding firstOf
-ten-or-none (ran ts) = (inl refl, differ tt, differ tt, differ tt)
-ten-or-none (short k) = (inr refl, differ tt, differ tt, differ tt)
-
-neither : (n : ℕ) → n ≢ 0 → n ≢ 10 → ¬ ((n ≡ 0) ⊎ (n ≡ 10))
-neither n a b (inl e) = a e
-neither n a b (inr e) = b e
+ten-or-none third z t (ran ts) = (inl refl, differ tt, differ tt, z)
+ten-or-none third z t (short k) = (inr refl, differ tt, differ tt, t)
 
 when : (W : Width) (s lent : List ℕ) → Bytes s → When s lent (seenSheet W s lent .0 .no)
 when W s lent b =
@@ -93,63 +94,77 @@ when W s lent b =
     (which
     (record {
       numbers = (differ tt, differ tt, differ tt);
-      rests = (neither 1 (differ tt) (differ tt), neither 3 (differ tt) (differ tt), neither 6 (differ tt) (differ tt));
+      rests = (neither 1 0 10 (differ tt) (differ tt), neither 3 0 10 (differ tt) (differ tt), neither 6 0 10 (differ tt) (differ tt));
     })
-    (noWord r ∷ []) (ten-or-none r) _ _ _
+    (noWord r ∷ []) (ten-or-none 6 (differ tt) (differ tt) r) _ _ _
     (tested-sound s) (tested-size (h .records) (h .k) (h .w)) (tested-room (length lent) (h .k)))
 
 -- a start of 0 is never above the number of words
 from-zero : (L : ℕ) (plan : List (List ℕ)) (words : List ℕ) → Allowed (noWord (run L plan words 0) ∷ []) → Allowed (ofWords L plan words 0)
 from-zero L plan words a = ap (λ (x : Refusal). x .applies) (first-past (no 9 (ltb (length words) 0)) _ (le-ltb (length words) 0 zero-le)) ∙ a
 
-module _ (g : GoodWidth w64) (s lent : List ℕ) (a : Allowed (sheetRefusals w64 s (length lent))) where
+-- a sheet whose draw can meet one number more before 10, and meets none
+module _ (g : GoodWidth w64) (s : List ℕ) (other : Refusal)
+    (a : Allowed (unreadable s ++ other ∷ noWord (run 64 (samplePlan w64 (numbers s .records) (numbers s .k)) (wordsOf s) 0) ∷ [])) where
   abbrev k : ℕ
   k = numbers s .k
-
-  abbrev xs : List ℕ
-  xs = recordsOf s
 
   abbrev plan : List (List ℕ)
   plan = samplePlan w64 (numbers s .records) k
 
-  count : length xs ≡ numbers s .records
-  count = length-records s
-
-  few : numbers s .records ≤ maxRecords
+  pub few : numbers s .records ≤ maxRecords
   few = let v = sound-known s (not-false (isSound s) (allowed-cons _ _ a .0)) in omega (arith, sheet-records s v)
 
-  size : k ≤ length xs
-  size =
-      let e = allowed-cons _ _ (allowed-cons _ _ a .1) .0 in
-      rw count (ltb-false (numbers s .records) k (or-right (ltb k 1) (ltb (numbers s .records) k) (or-left (outside 1 (numbers s .records) k) _ e)))
+  pub size : (1 ≤ k) × (k ≤ numbers s .records)
+  size = let v = right-size (numbers s .records) k (numbers s .w) (allowed-cons _ _ (allowed-cons _ _ a .1) .0) in (v .0, v .1)
 
-  words-left : Allowed (ofWords 64 plan (wordsOf s) 0)
+  pub words-left : Allowed (ofWords 64 plan (wordsOf s) 0)
   words-left = from-zero 64 plan (wordsOf s) (allowed-cons _ _ (allowed-cons _ _ (allowed-cons _ _ a .1) .1) .1)
 
-  rollable : RollablePlan (2 ^ 64) plan
+  pub rollable : RollablePlan (2 ^ 64) plan
   rollable = plan-fits w64 g (numbers s .records) k few .rollable
 
-  draws : Bytes s → Draws w64 s lent (seenSheet w64 s lent)
-  draws b =
-      let ran = sheet-flat w64 s (length lent) ∙ allowed-done (sheetRefusals w64 s (length lent)) (sampled w64 (wordsOf s) 0 xs k) a in
-      let n = length-sample xs (rollsOf 64 plan (trace (run 64 plan (wordsOf s) 0))) k size in
-      rw (ran, count) (record {
-        sample = record { none = (refl, refl); method = by-method 64 plan (wordsOf s) 0 words-left rollable (fits s b .0) _ (rw n refl) };
-        six = refl;
-      })
+  pub method : (b : Bytes s) (Read : List ℕ → Type 0) → let ts = trace (run 64 plan (wordsOf s) 0) in
+      Read (rollsOf 64 plan ts) → Lemire 64 plan (wordsOf s) 0 (next 0 ts) (rejected 0 ts) Read
+  method b Read x = by-method 64 plan (wordsOf s) 0 words-left rollable (fits s b .0) Read x
+
+  pub roll-count : Bytes s → k + length (rollsOf 64 plan (trace (run 64 plan (wordsOf s) 0))) ≡ numbers s .records
+  roll-count b =
+      let bounds : List ℕ = countup (numbers s .records - k) (k + 1) in
+      let c = rolled-count 64 plan (wordsOf s) 0 words-left rollable (fits s b .0) bounds (plan-fits w64 g (numbers s .records) k few .same) in
+      omega (arith, c ∙ length-countup (numbers s .records - k) (k + 1), size .1)
+
+draws : (s lent : List ℕ) → Allowed (sheetRefusals w64 s (length lent)) → Bytes s → Draws w64 s lent (seenSheet w64 s lent)
+draws s lent a b =
+    let k : ℕ = numbers s .k in
+    let xs : List ℕ = recordsOf s in
+    let other : Refusal = no 6 (ltb (length lent) k) in
+    let ran = sheet-flat w64 s (length lent) ∙ allowed-done (sheetRefusals w64 s (length lent)) (sampled w64 (wordsOf s) 0 xs k) a in
+    let plan : List (List ℕ) = samplePlan w64 (numbers s .records) k in
+    let n = length-sample xs (rollsOf 64 plan (trace (run 64 plan (wordsOf s) 0))) k (rw (length-records s) (size good64 s other a .1)) in
+    rw (ran, length-records s) (record {
+      sample = record { none = (refl, refl); method = method good64 s other a b _ (rw n refl) };
+      six = refl;
+    })
 
 demand2 : Demand2 w64 (seenSheet w64)
-demand2 s lent b a = draws good64 s lent a b
+demand2 s lent b a = draws s lent a b
+
+numbered : (s : List ℕ) (room : ℕ) → Numbered (sheetRefusals w64 s room)
+numbered s room = numbered-no 1 _ _ (lit< tt) (numbered-no 3 _ _ (lit< tt) (numbered-no 6 _ _ (lit< tt)
+    (numbered-word (run 64 (samplePlan w64 (numbers s .records) (numbers s .k)) (wordsOf s) 0))))
+
+pub none-refused : (s lent : List ℕ) → Bytes s → seenSheet w64 s lent .0 .no ≡ 0 → Allowed (sheetRefusals w64 s (length lent))
+none-refused s lent b z = none-applies (sheetRefusals w64 s (length lent)) (numbered s (length lent)) (sym (demand1 w64 s lent b .lowest) ∙ z)
 
 settled : Settled w64
 settled a b a1 a2 b1 b2 s lent bytes =
-    settle (sheetRefusals w64 s (length lent)) (λ o. (shownDrawn s o, lent)) (λ (x : Drawn × List ℕ). x .0 .no)
-    (numbered-no 1 _ _ (lit< tt) (numbered-no 3 _ _ (lit< tt) (numbered-no 6 _ _ (lit< tt) (numbered-word (run 64 (samplePlan w64 (numbers s .records) (numbers s .k)) (wordsOf s) 0)))))
+    settle (sheetRefusals w64 s (length lent)) (λ o. (shownDrawn s o, lent)) (λ (x : Drawn × List ℕ). x .0 .no) (numbered s (length lent))
     (a s lent) (b s lent) (a1 s lent bytes) (b1 s lent bytes) (λ al.
     let k : ℕ = numbers s .k in
     let x = a2 s lent bytes al in
     let y = b2 s lent bytes al in
-    let same = same-seen 64 (samplePlan w64 (numbers s .records) k) (wordsOf s) (rollable good64 s lent al) (fits s bytes .0) 0
+    let same = same-seen 64 (samplePlan w64 (numbers s .records) k) (wordsOf s) (rollable good64 s (no 6 (ltb (length lent) k)) al) (fits s bytes .0) 0
     (λ rs. reservoir (take k (recordsOf s)) (drop k (recordsOf s)) rs ++ drop k lent) _ _ (x .sample) (y .sample) in
     let drawn = x .six ∙ ap (λ (z : Answer × List ℕ). drawnBy s (z .0 .next) (z .0 .rejected)) same ∙ sym (y .six) in
     let after = ap (λ (z : Answer × List ℕ). z .1) same in

@@ -1,13 +1,14 @@
 -- Which number is given, of three that are looked for in turn. Assumes nothing.
 --
 --   differ          two numbers that the test tells apart
+--   neither         a number that differs from two is neither
 --   Parted          the three numbers and what is said of the rest exclude each other
 --   which           the statement, of the first refusal of a list whose tests fail exactly where their sentences hold
 --   none-applies    where no number was given no refusal applies
 --   tested-sound, tested-size, tested-room    the tests of a sheet fail exactly where their sentences hold
 use mathlib.Core.Path.{_≡_, refl, sym, ap}
 use mathlib.Core.Bool.{Bool, true, false, not, _||_}
-use mathlib.Core.Logic.{_↔_, _≢_}
+use mathlib.Core.Logic.{_↔_, _≢_, _⊎_, inl, inr}
 use mathlib.Core.List.{List, _∷_}
 use Prim.Native.Nat.{ℕ, _≤_}
 use native.Mathlib.Omega.{arith}
@@ -34,6 +35,10 @@ differ {m} {n} t e = go (ltb m n) refl (ltb n m) refl t
     go true f b g u = let l = ltb-true m n f in omega (arith, l, e)
     go false f true g u = let l = ltb-true n m g in omega (arith, l, e)
     go false f false g u = u
+
+pub neither : (n a b : ℕ) → n ≢ a → n ≢ b → ¬ ((n ≡ a) ⊎ (n ≡ b))
+neither n a b h k (inl e) = h e
+neither n a b h k (inr e) = k e
 
 pub record Parted (first second third : ℕ) (Rest : ℕ → Type 0) : Type 0 where
   pub numbers : (first ≢ second) × (first ≢ third) × (second ≢ third)

@@ -8,6 +8,7 @@ pub mod Behind
 pub mod Order
 pub mod Sheet
 pub mod Read
+pub mod Why
 pub mod Write
 pub mod Demand3
 pub mod FirstBatch

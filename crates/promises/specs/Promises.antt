@@ -21,6 +21,7 @@ use Rattle.promises.specs.RoundTrip.{RoundTrip}
 use Rattle.promises.specs.Sample as sample
 use Rattle.promises.specs.Sheet as sheet
 use Rattle.promises.specs.Shuffle as shuffle
+use Rattle.promises.specs.Why as why
 use Rattle.promises.specs.Write as write
 
 pub record Promises : Type 0 where
@@ -33,6 +34,7 @@ pub record Promises : Type 0 where
   pub run-sheet : sheet.Promise w64
   pub write-sheet : write.Promise
   pub read-sheet : read.Promise
+  pub why : why.Promise w64
   -- a sheet written, read, run and written again
   pub round-trip : RoundTrip w64
   -- shared by demands 1 and 2

@@ -13,17 +13,7 @@ use lib.ListN.{length, take, drop, set, getD, length-set, length-drop}
 use lib.Seq.{set-out, getD-set-same, getD-set-other, getD-take, getD-drop, length-take-le}
 use Rattle.rules.specs.Reservoir.{reservoir}
 use Rattle.rules.specs.Pinned.{LastAt, Nowhere, ReservoirPinned}
-use Rattle.rules.proofs.Reservoir.{length-sample, reservoir-taken, reservoir-passed}
-
--- ---- one record
-
--- a store past the slots changes nothing, so one law serves both
-one-record : (slots : List ℕ) (x : ℕ) (xs : List ℕ) (j : ℕ) (js : List ℕ) → reservoir slots (x ∷ xs) (j ∷ js) ≡ reservoir (set slots j x) xs js
-one-record slots x xs j js = go (decLt j (length slots))
-  where
-    go : Dec (j < length slots) → reservoir slots (x ∷ xs) (j ∷ js) ≡ reservoir (set slots j x) xs js
-    go (yes h) = reservoir-taken slots x xs j js h
-    go (no n) = reservoir-passed slots x xs j js (omega arith) ∙ rw (set-out slots j x (omega arith))
+use Rattle.rules.proofs.Reservoir.{length-sample, reservoir-cons}
 
 -- ---- one slot
 
@@ -37,7 +27,7 @@ unfolding reservoir
 left slots [] [] j e h = inr (λ i k. absurd (not-suc-le-zero k), refl)
 left slots [] (r ∷ js) j e h = absurd (let z : ⊥ = omega arith in z)
 left slots (x ∷ xs) [] j e h = absurd (let z : ⊥ = omega arith in z)
-left slots (x ∷ xs) (r ∷ js) j e h = rw one-record (go (left (set slots r x) xs js j (omega arith) (rw length-set h)) (ℕ-discrete r j))
+left slots (x ∷ xs) (r ∷ js) j e h = rw reservoir-cons (go (left (set slots r x) xs js j (omega arith) (rw length-set h)) (ℕ-discrete r j))
   where
     v : ℕ
     v = getD (reservoir (set slots r x) xs js) j 0

@@ -2,15 +2,20 @@
 --
 --   length-countdown, countdown-cons, getD-countdown   m, m - 1, ..
 --   length-countup, getD-countup                       i, i + 1, ..
+--   countup-add, countup-snoc                          one row after the other, and one number more
+--   take-countup, drop-countup                         a row in two parts
+--   map-places                                         what stands at each place, in a row, is the list
 --   length-shuffle-bounds, no-bounds, bounds-cons    the bounds n, n - 1, .., 2
 --   countdown-add                                    one row after the other
 --   product-countdown                                the product of a row is 1 or more, and at most a power
-use mathlib.Core.Path.{_≡_, refl, ap, _∙_}
-use mathlib.Core.List.{List, [], _∷_, _++_}
+use mathlib.Core.Path.{_≡_, refl, sym, ap, ap₂, _∙_}
+use mathlib.Core.List.{List, [], _∷_, _++_, map}
 use Prim.Native.Nat.{ℕ, zero, suc, _+_, _-_, _^_, _<_, _≤_}
-use native.Mathlib.Nat.{not-suc-le-zero, le-of-suc-le-suc, le-refl, mul-pos, mul-le-mul, pow-zero, pow-succ', sub-zero, zero-add, suc-add}
+use native.Mathlib.Nat.{not-suc-le-zero, le-of-suc-le-suc, le-refl, mul-pos, mul-le-mul, pow-zero, pow-succ', sub-zero, add-zero, zero-add, suc-add}
+use native.Mathlib.Numerals.{add-one}
 use native.Mathlib.Omega.{arith}
-use lib.ListN.{length, getD}
+use lib.ListN.{length, take, drop, getD}
+use lib.Seq.{take-at, drop-at}
 use Rattle.rules.specs.Rolls.{product}
 use Rattle.rules.specs.Shuffle.{countdown, shuffleBounds}
 use Rattle.rules.specs.Reservoir.{countup}
@@ -43,6 +48,33 @@ unfolding countup
 getD-countup zero i k h = absurd (not-suc-le-zero h)
 getD-countup (suc s) i zero h = omega arith
 getD-countup (suc s) i (suc k) h = getD-countup s (i + 1) k (le-of-suc-le-suc h) ∙ omega arith
+
+pub countup-add : (s t i : ℕ) → countup s i ++ countup t (i + s) ≡ countup (s + t) i
+unfolding countup
+countup-add zero t i = rw (add-zero, zero-add)
+countup-add (suc s) t i =
+    let e : i + suc s ≡ i + 1 + s = omega arith in
+    rw (e, suc-add) (ap (λ (l : List ℕ). i ∷ l) (countup-add s t (i + 1)))
+
+pub countup-snoc : (s i : ℕ) → countup (s + 1) i ≡ countup s i ++ (i + s) ∷ []
+unfolding countup
+countup-snoc s i = sym (countup-add s 1 i)
+
+pub take-countup : (k m : ℕ) → take k (countup (k + m) 0) ≡ countup k 0
+take-countup k m = rw (← countup-add k m 0) (take-at (countup k 0) (countup m (0 + k)) k (length-countup k 0))
+
+pub drop-countup : (k m : ℕ) → drop k (countup (k + m) 0) ≡ countup m k
+drop-countup k m = rw (← countup-add k m 0) (drop-at (countup k 0) (countup m (0 + k)) k (length-countup k 0) ∙ rw zero-add)
+
+map-next : (f : ℕ → ℕ) (s i : ℕ) → map f (countup s (i + 1)) ≡ map (λ p. f (suc p)) (countup s i)
+unfolding countup
+map-next f zero i = refl
+map-next f (suc s) i = ap₂ (λ (x : ℕ) (l : List ℕ). x ∷ l) (ap f (add-one i)) (map-next f s (i + 1))
+
+pub map-places : (xs : List ℕ) → map (λ p. getD xs p 0) (countup (length xs) 0) ≡ xs
+unfolding countup
+map-places [] = refl
+map-places (x ∷ xs) = ap (λ (l : List ℕ). x ∷ l) (map-next (λ p. getD (x ∷ xs) p 0) (length xs) 0 ∙ map-places xs)
 
 pub length-shuffle-bounds : (n : ℕ) → length (shuffleBounds n) ≡ n - 1
 length-shuffle-bounds n = length-countdown (n - 1) n

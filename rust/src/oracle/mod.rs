@@ -11,10 +11,11 @@ pub mod second;
 pub mod sheet;
 pub mod word;
 
-use crate::raw::{Answer, Batch, Behind, Drawn, Numbers, Written};
+use crate::raw::{self, Answer, Batch, Behind, Drawn, Numbers, Written};
+use crate::reason::Reason;
 use crate::refusal::Refusal;
 use plan::{cut, MAX_BATCH};
-use run::run;
+use run::{run, Trace};
 use word::{power, product, run_of_words, L};
 
 /// The most bounds in a list.
@@ -228,4 +229,28 @@ fn written(words: &[u64], records: &[u32], k: usize, w: usize, room: usize) -> O
         (Refusal::Room, (room as u128) < length),
     ])?;
     Ok(Done { values: sheet::written(words, records, k, w), next: 0, rejected: 0 })
+}
+
+/// Tells why the record at a place of a draw sheet was drawn or not.
+pub fn why(sheet: &[u8], place: usize) -> raw::Reason {
+    let zeros = raw::Reason::default();
+    let (trace, reason) = match explained(sheet, place) {
+        Ok(explained) => explained,
+        Err(refusal) => return raw::Reason { no: refusal.number(), batch: refusal.batch(), ..zeros },
+    };
+    let answer = raw::Reason { next: trace.next, rejected: trace.rejected, reason: reason.number(), ..zeros };
+    match reason {
+        Reason::Stayed { slot } | Reason::RolledIn { slot } => raw::Reason { slot, ..answer },
+        Reason::Taken { slot, by_place, by_step } => raw::Reason { slot, by_place, by_step, ..answer },
+        Reason::PassedOver { roll } => raw::Reason { roll, ..answer },
+    }
+}
+
+fn explained(sheet: &[u8], place: usize) -> Result<(Trace, Reason), Refusal> {
+    let (numbers, words, records) = contents(sheet)?;
+    refuse(&[(Refusal::Misfit, place >= records.len())])?;
+    let k = numbers.k as usize;
+    let trace = run(&plan::sample(records.len(), k), &words, 0)?;
+    let reasons = reading::reasons(k, &trace.rolls());
+    Ok((trace, reasons[place]))
 }

@@ -1,6 +1,9 @@
-//! Readings: what rolls mean for records. Fisher-Yates, the reservoir, and the way back from an order to its rolls.
+//! Readings: what rolls mean for records. Fisher-Yates, the reservoir and what happened to each record in it, and the
+//! way back from an order to its rolls.
 
 use super::run::Trace;
+use crate::reason::Reason;
+use std::mem::replace;
 
 /// Fisher-Yates: with m records still to place, each batch of s rolls exchanges, for i = 1..s in turn, the record at
 /// place roll i with that at place m - i. Then m falls by s.
@@ -26,6 +29,25 @@ pub fn sampled(records: &[u32], k: usize, rolls: &[u64]) -> Vec<u32> {
         }
     }
     slots
+}
+
+/// What happened to the record at each place: the reservoir again, with places in its slots. Step by step a record has
+/// the reason that is true of it so far.
+pub fn reasons(k: usize, rolls: &[u64]) -> Vec<Reason> {
+    let mut slots: Vec<usize> = (0..k).collect();
+    let mut reasons: Vec<Reason> = slots.iter().map(|&slot| Reason::Stayed { slot }).collect();
+    for (step, &roll) in rolls.iter().enumerate() {
+        let i = k + step;
+        if roll < k as u64 {
+            let slot = roll as usize;
+            let put_out = replace(&mut slots[slot], i);
+            reasons[put_out] = Reason::Taken { slot, by_place: i, by_step: step };
+            reasons.push(Reason::RolledIn { slot });
+        } else {
+            reasons.push(Reason::PassedOver { roll });
+        }
+    }
+    reasons
 }
 
 /// Whether a list holds each of 0..n - 1 once.

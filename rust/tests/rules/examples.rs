@@ -1,12 +1,13 @@
 //! The checked examples of document 01, with the values that stand there.
 
 use crate::support::{
-    batch_refused, behind, done, read_sheet, refused, roll_batch, roll_list, rolled, rolls_behind, run_sheet, sample,
-    sheet_read, sheet_written, shuffle, words_behind, write_sheet, Lent,
+    batch_refused, behind, done, explained, read_sheet, refused, roll_batch, roll_list, rolled, rolls_behind,
+    run_sheet, sample, sheet_read, sheet_written, shuffle, why, words_behind, write_sheet, Lent,
 };
 use crate::{program, sheets};
 use hildrasp::oracle::{plan::cut, word};
 use hildrasp::raw::{Drawn, Numbers};
+use hildrasp::Reason;
 
 #[test]
 fn at_four_bits_bounds_2_and_6_reject_0_4_8_12() {
@@ -128,6 +129,14 @@ fn the_sheet_of_52_bytes_is_written_from_its_words_and_records_and_read_back() {
     let numbers = Numbers { words: 2, words_at: 24, records: 3, records_at: 40, k: 1, w: 1 };
     let read = (sheet_read(numbers), Lent::holding(3, &words), Lent::holding(5, &records));
     assert_eq!(read_sheet(&sheet, [3, 5]), read);
+}
+
+#[test]
+fn on_the_sheet_of_52_bytes_record_205_put_out_101_and_309_put_out_205_and_stayed() {
+    let sheet = sheets::of_52_bytes();
+    assert_eq!(why(&sheet, 0), explained(2, 1, Reason::Taken { slot: 0, by_place: 1, by_step: 0 }));
+    assert_eq!(why(&sheet, 1), explained(2, 1, Reason::Taken { slot: 0, by_place: 2, by_step: 1 }));
+    assert_eq!(why(&sheet, 2), explained(2, 1, Reason::RolledIn { slot: 0 }));
 }
 
 #[test]

@@ -28,6 +28,7 @@ typedef struct {
     hildrasp_drawn drawn[2];
     hildrasp_written written[3];
     hildrasp_drawn read[4];
+    hildrasp_reason why;
 } answers;
 
 static answers with_empty_lists(void *empty, const uint8_t sheet[52])
@@ -56,6 +57,7 @@ static answers with_empty_lists(void *empty, const uint8_t sheet[52])
                  hildrasp_read_sheet(sheet, 52, empty, 0, records, 3),
                  hildrasp_read_sheet(without_words, 36, empty, 0, records, 3),
                  hildrasp_read_sheet(sheet, 52, rolls, 2, empty, 0)},
+        .why = hildrasp_why(empty, 0, 0),
     };
 }
 
@@ -83,6 +85,37 @@ static void is_written_and_read(const uint8_t sheet[52])
     HOLDS(read.words == 2 && read.words_at == 24 && read.records == 3 && read.records_at == 40);
     HOLDS(read.k == 1 && read.w == 1 && words_read[0] == 0 && words_read[1] == 1 && words_read[2] == 9);
     HOLDS(memcmp(records_read, records, sizeof records) == 0 && records_read[3] == 9);
+}
+
+/* On the sheet of document 01 record 205 took the slot from 101, and 309 from 205. There is no fourth record. */
+static void has_its_reasons(const uint8_t sheet[52])
+{
+    for (size_t place = 0; place < 3; place++) {
+        hildrasp_reason why = hildrasp_why(sheet, 52, place);
+        HOLDS(why.no == 0 && why.next == 2 && why.rejected == 1 && why.batch == 0);
+        HOLDS(why.reason == (place < 2 ? 3 : 2) && why.slot == 0 && why.roll == 0);
+        HOLDS(why.by_place == (place < 2 ? place + 1 : 0) && why.by_step == (place < 2 ? place : 0));
+    }
+    hildrasp_reason why = hildrasp_why(sheet, 52, 3);
+    HOLDS(why.no == HILDRASP_MISFIT && why.next == 0 && why.rejected == 0 && why.batch == 0);
+    HOLDS(why.reason == 0 && why.slot == 0 && why.by_place == 0 && why.by_step == 0 && why.roll == 0);
+    why = hildrasp_why(sheet, 51, 3);
+    HOLDS(why.no == HILDRASP_SHEET && why.next == 0 && why.rejected == 0 && why.reason == 0);
+}
+
+/* The highest words leave the first of 18 records in its slot: the last rolls 17. They are two batches. */
+static void passes_over_the_last_of_18(void)
+{
+    const uint64_t words[2] = {UINT64_MAX, UINT64_MAX};
+    const uint32_t records[18] = {0};
+    uint8_t sheet[112];
+    HOLDS(hildrasp_write_sheet(words, 2, records, 18, 1, 1, sheet, 112).length == 112);
+    hildrasp_reason why = hildrasp_why(sheet, 112, 17);
+    HOLDS(why.no == 0 && why.next == 2 && why.rejected == 0 && why.batch == 0);
+    HOLDS(why.reason == 4 && why.slot == 0 && why.by_place == 0 && why.by_step == 0 && why.roll == 17);
+    hildrasp_write_sheet(words, 1, records, 18, 1, 1, sheet, 112);
+    why = hildrasp_why(sheet, 104, 17);
+    HOLDS(why.no == HILDRASP_WORDS && why.next == 0 && why.batch == 1 && why.reason == 0 && why.roll == 0);
 }
 
 /* Writing is refused 2 for these counts of words and records, both lists in the same zeros, which are not looked at. */
@@ -166,6 +199,8 @@ int main(void)
     HOLDS(drawn.no == HILDRASP_SHEET && drawn.words == 0 && drawn.k == 0 && slots[0] == 309);
 
     is_written_and_read(sheet);
+    has_its_reasons(sheet);
+    passes_over_the_last_of_18();
     lists_of_4_gib_are_too_long();
 
     uint64_t place = 9;

@@ -3,8 +3,8 @@
 use crate::sheets;
 use crate::support::built_program;
 use hildrasp::{
-    read_sheet, roll_batch, roll_list, rolls_behind, run_sheet, sample, shuffle, words_behind, write_sheet, Refusal,
-    Used,
+    read_sheet, roll_batch, roll_list, rolls_behind, run_sheet, sample, shuffle, why, words_behind, write_sheet,
+    Explanation, Reason, Refusal, Used,
 };
 use std::env;
 use std::path::Path;
@@ -103,6 +103,33 @@ fn reading_a_sheet_can_meet_1_3_6() {
     assert_eq!(read_sheet(&sheet(1, 2), &mut [0; 2], &mut [0; 3]), Err(Refusal::Sample));
     assert_eq!(read_sheet(&sheet(1, 1), &mut [0; 1], &mut [0; 3]), Err(Refusal::Room));
     assert_eq!(read_sheet(&sheet(1, 1), &mut [0; 2], &mut [0; 2]), Err(Refusal::Room));
+}
+
+#[test]
+fn why_a_record_was_drawn_or_not_can_meet_1_3_7_10() {
+    let sheet = |words: &[u64], k, w| sheets::laid_out(words, &[101, 205, 309], k, w, [0; 3], false);
+    assert_eq!(why(&[0; 23], 0), Err(Refusal::Sheet));
+    assert_eq!(why(&sheet(&[0, 1], 1, 2), 0), Err(Refusal::Sample));
+    assert_eq!(why(&sheet(&[0, 1], 1, 1), 3), Err(Refusal::Misfit));
+    assert_eq!(why(&sheet(&[0], 1, 1), 0), Err(Refusal::Words { batch: 0 }));
+    let two_batches = sheets::laid_out(&[u64::MAX], &[7; 18], 1, 1, [0; 3], false);
+    assert_eq!(why(&two_batches, 0), Err(Refusal::Words { batch: 1 }));
+}
+
+#[test]
+fn a_reason_carries_its_number_and_what_it_names() {
+    // The bounds are 3 and 4. Word 0 is rejected, and word 5 x 2^61 gives the rolls 1 and 3.
+    let sheet = sheets::laid_out(&[0, 5 << 61], &[101, 205, 307, 409], 2, 1, [0; 3], false);
+    let reasons = [
+        (Reason::Stayed { slot: 0 }, 1),
+        (Reason::Taken { slot: 1, by_place: 2, by_step: 0 }, 3),
+        (Reason::RolledIn { slot: 1 }, 2),
+        (Reason::PassedOver { roll: 3 }, 4),
+    ];
+    for (place, (reason, number)) in reasons.into_iter().enumerate() {
+        assert_eq!(why(&sheet, place), Ok(Explanation { used: Used { next: 2, rejected: 1 }, reason }));
+        assert_eq!(reason.number(), number);
+    }
 }
 
 #[test]

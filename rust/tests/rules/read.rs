@@ -1,6 +1,6 @@
 //! Reading a draw sheet without a draw: its numbers, words and records, writing them again, and refusals 1, 3, 6.
 
-use crate::sheets::{self, by_the_library, change_number, laid_out, numbers_without_gaps, written};
+use crate::sheets::{self, by_the_library, laid_out, numbers_without_gaps, written, UNSOUND};
 use crate::support::{
     cases, choices, in_place, read_sheet, run_sheet, sheet_read, sheet_refused, thinned, Generator, Lent,
 };
@@ -216,16 +216,6 @@ fn where_either_list_is_too_short_it_is_refused_6_and_neither_is_written() {
     // No words need no room.
     assert_eq!(read_sheet(&laid_out(&[], &records, 2, 1, [0; 3], false), [0, 5]).0.no, 0);
 }
-
-/// Damages after which a sheet that has words and records, and no gap, is not sound: it is too short, too long, its
-/// records end past it, an offset is below 24, its areas share bytes.
-const UNSOUND: [fn(&mut Vec<u8>); 5] = [
-    |sheet| sheet.truncate(23),
-    |sheet| sheet.resize(65_536, 0),
-    |sheet| sheet.truncate(sheet.len() - 1),
-    |sheet| change_number(sheet, 4, |_| 23),
-    |sheet| change_number(sheet, 12, |_| 24),
-];
 
 #[test]
 fn of_any_refusals_that_meet_the_lowest_number_is_given() {

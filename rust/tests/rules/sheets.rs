@@ -1,7 +1,8 @@
-//! Making sheets: laid out soundly, written from any six numbers, or by the library; at random, sound and damaged.
+//! Making sheets: laid out soundly, written from any six numbers, or by the library; at random, sound and damaged; with
+//! words that give wanted rolls.
 
 use crate::support::{sheet_written, write_sheet, Generator};
-use hildrasp::oracle::plan;
+use hildrasp::oracle::{plan, word};
 use hildrasp::Numbers;
 
 /// What the gaps of a sheet are filled with.
@@ -75,6 +76,11 @@ pub fn by_the_library(words: &[u64], records: &[u32], k: usize, w: usize) -> Vec
 pub fn to_draw_from(generator: &mut Generator) -> (Vec<u64>, Vec<u32>, usize, usize) {
     let most = generator.one_of(&[5, 20, 20, 100, 100, 3000]);
     let n = generator.between(1, most);
+    n_to_draw_from(generator, n)
+}
+
+/// The same, of n records.
+pub fn n_to_draw_from(generator: &mut Generator, n: usize) -> (Vec<u64>, Vec<u32>, usize, usize) {
     let most_k = generator.one_of(&[1, 5, n]).min(n);
     let k = generator.between(1, most_k);
     let w = generator.below(k + 1);
@@ -82,6 +88,31 @@ pub fn to_draw_from(generator: &mut Generator) -> (Vec<u64>, Vec<u32>, usize, us
     let mut words = generator.words_for_plan(&plan::sample(n, k));
     words.extend((0..generator.below(3)).map(|_| generator.word()));
     (words, records, k, w)
+}
+
+/// Counts of records, each with a k: with one record more, the words of the draw, one for each batch, would not fit on
+/// the sheet beside the records.
+pub const LONGEST_DRAWS: [(usize, usize); 7] =
+    [(16_377, 16_377), (16_375, 16_371), (16_000, 15_248), (14_000, 9_248), (12_000, 3_248), (11_125, 64), (11_117, 1)];
+
+/// Rolls for a sample of k from n records. Half of them are low, so that the first slots change hands often.
+pub fn rolls_for(generator: &mut Generator, n: usize, k: usize) -> Vec<u64> {
+    let roll = |place: usize| {
+        let bound = generator.one_of(&[k.min(5), place + 1]);
+        generator.below(bound) as u64
+    };
+    (k..n).map(roll).collect()
+}
+
+/// The words, one for each batch, that give these rolls in a sample of k records.
+pub fn words_that_roll(k: usize, rolls: &[u64]) -> Vec<u64> {
+    let mut left = rolls;
+    let word = |bounds: &Vec<u64>| {
+        let (of_this_batch, later) = left.split_at(bounds.len());
+        left = later;
+        word::run_of_words(word::L, bounds, of_this_batch).0
+    };
+    plan::sample(k + rolls.len(), k).iter().map(word).collect()
 }
 
 /// A sheet made to be drawn from.
@@ -132,7 +163,18 @@ pub fn damaged(generator: &mut Generator) -> Vec<u8> {
     sheet
 }
 
-/// Numbers for a k or a w beside n: at its edges and at those of 32 and 64 bits, some with a low half of 0, 1 or n.
+/// Damages after which a sheet that has words and records, and no gap, is not sound: it is too short, too long, its
+/// records end past it, an offset is below 24, its areas share bytes.
+pub const UNSOUND: [fn(&mut Vec<u8>); 5] = [
+    |sheet| sheet.truncate(23),
+    |sheet| sheet.resize(65_536, 0),
+    |sheet| sheet.truncate(sheet.len() - 1),
+    |sheet| change_number(sheet, 4, |_| 23),
+    |sheet| change_number(sheet, 12, |_| 24),
+];
+
+/// Numbers for a k, a w or a place beside n: at its edges and at those of 32 and 64 bits, some with a low half of 0, 1
+/// or n.
 pub fn numbers_beside(n: usize) -> Vec<usize> {
     let (low_half, high_half) = (0xffff_ffff, 0xffff_ffff << 32);
     let around_n = [0, 1, n.saturating_sub(1), n, n + 1, n + 2];

@@ -3,6 +3,7 @@
 
 use hildrasp::oracle::{self, plan::Plan, word};
 use hildrasp::raw::{self, Answer, Batch, Behind, Drawn, Numbers, Written};
+use hildrasp::Reason;
 use std::env;
 use std::fmt::{self, Debug};
 use std::path::Path;
@@ -60,6 +61,12 @@ pub fn choices(numbers: &[u64]) -> Vec<Vec<u64>> {
 /// The records 0, 1, .., n - 1, each at its own place.
 pub fn in_place(n: usize) -> Vec<u32> {
     (0..n as u32).collect()
+}
+
+/// For a product of b: the words around each edge between two series of rolls.
+pub fn words_around_every_edge(b: u128) -> impl Iterator<Item = u64> {
+    let edges = (0..b).map(move |a| (a << 64).div_ceil(b) as u64);
+    edges.flat_map(|edge| [edge.wrapping_sub(1), edge, edge.wrapping_add(1)])
 }
 
 /// A list in a message: long ones by their first places.
@@ -384,6 +391,13 @@ pub fn read_sheet(sheet: &[u8], [word_room, record_room]: [usize; 2]) -> (Drawn,
     read
 }
 
+/// Tells why the record at a place was drawn or not by the library, and by the oracle with the same answer.
+pub fn why(sheet: &[u8], place: usize) -> raw::Reason {
+    let answer = raw::why(sheet, place);
+    assert_eq!(answer, oracle::why(sheet, place), "{} bytes {}, place {place}", sheet.len(), brief(sheet));
+    answer
+}
+
 // ---- Answers written out ----
 
 /// A batch that gave these rolls.
@@ -436,4 +450,20 @@ pub fn write_refused(no: u64) -> Written {
 /// A sheet that was refused.
 pub fn sheet_refused(no: u64, batch: usize) -> Drawn {
     Drawn { no, next: 0, rejected: 0, batch, numbers: Numbers::default() }
+}
+
+/// A reason in a draw that used these words; fields that do not apply are 0.
+pub fn explained(next: usize, rejected: usize, reason: Reason) -> raw::Reason {
+    let (number, [slot, by_place, by_step], roll) = match reason {
+        Reason::Stayed { slot } => (1, [slot, 0, 0], 0),
+        Reason::RolledIn { slot } => (2, [slot, 0, 0], 0),
+        Reason::Taken { slot, by_place, by_step } => (3, [slot, by_place, by_step], 0),
+        Reason::PassedOver { roll } => (4, [0, 0, 0], roll),
+    };
+    raw::Reason { no: 0, next, rejected, batch: 0, reason: number, slot, by_place, by_step, roll }
+}
+
+/// A reason that was not given.
+pub fn why_refused(no: u64, batch: usize) -> raw::Reason {
+    raw::Reason { no, next: 0, rejected: 0, batch, reason: 0, slot: 0, by_place: 0, by_step: 0, roll: 0 }
 }

@@ -2,10 +2,10 @@
 //! included.
 
 use crate::sheets::{self, laid_out, numbers_beside, written};
-use crate::support::{brief, cases, in_place, Generator, Lent};
+use crate::support::{brief, cases, in_place, words_around_every_edge, Generator, Lent};
 use hildrasp::oracle::plan::{self, Plan};
 use hildrasp::oracle::{self, second, sheet, word};
-use hildrasp::raw::{Answer, Batch, Behind, Drawn, Written};
+use hildrasp::raw::{Answer, Batch, Behind, Drawn, Reason, Written};
 use hildrasp::Numbers;
 use std::collections::BTreeSet;
 use std::fmt::Debug;
@@ -113,6 +113,13 @@ fn write_sheet(words: &[u64], records: &[u32], k: usize, w: usize, room: usize) 
     )
 }
 
+/// Tells why the record at a place was drawn or not both ways.
+fn why(sheet: &[u8], place: usize) -> Reason {
+    let answer = oracle::why(sheet, place);
+    assert_eq!(answer, second::why(sheet, place), "{} bytes {}, place {place}", sheet.len(), brief(sheet));
+    answer
+}
+
 /// Writes the program's text both ways.
 fn prints(input: &[u8]) {
     assert_eq!(sheet::printed(input), second::sheet::printed(input), "{} bytes {}", input.len(), brief(input));
@@ -132,12 +139,6 @@ fn all_lists<T: Copy>(numbers: &[T], longest: usize) -> Vec<Vec<T>> {
         lists.extend(next);
     }
     lists
-}
-
-/// For a product of b: the words around each edge between two series of rolls.
-fn words_around_every_edge(b: u128) -> impl Iterator<Item = u64> {
-    let edges = (0..b).map(move |a| (a << 64).div_ceil(b) as u64);
-    edges.flat_map(|edge| [edge.wrapping_sub(1), edge, edge.wrapping_add(1)])
 }
 
 #[test]
@@ -240,6 +241,21 @@ fn every_sample_of_up_to_7_records_is_the_same_both_ways() {
 }
 
 #[test]
+fn why_each_of_up_to_6_records_was_drawn_or_not_is_the_same_both_ways() {
+    let mut generator = Generator::new(108);
+    for (n, k) in (1..=6).flat_map(|n| (1..=n).map(move |k| (n, k))) {
+        let b = word::product(&(k as u64 + 1..=n as u64).collect::<Vec<u64>>());
+        for word in words_around_every_edge(b) {
+            let words = [word, generator.word_for(b)];
+            let sheet = laid_out(&words, &generator.records(n), k as u32, 1, [0; 3], false);
+            for place in 0..=n {
+                why(&sheet, place);
+            }
+        }
+    }
+}
+
+#[test]
 fn the_rolls_behind_every_order_of_up_to_6_records_are_the_same_both_ways() {
     // A list of n numbers from 0 to n is an order, or is not.
     for n in 0..=6 {
@@ -260,6 +276,7 @@ fn a_sheet_with_its_areas_at_every_place_is_the_same_both_ways() {
                 let sheet = written(length, numbers, &[7, 8], &[9, 10, 11]);
                 run_sheet(&sheet, 3);
                 read_sheet(&sheet, [2, 3]);
+                why(&sheet, 1);
             }
         }
     }
@@ -275,6 +292,7 @@ fn a_sheet_with_every_k_and_w_and_its_text_are_the_same_both_ways() {
                 run_sheet(&sheet, room);
                 read_sheet(&sheet, [room, n]);
                 read_sheet(&sheet, [words.len(), room]);
+                why(&sheet, room);
             }
         }
     }
@@ -455,6 +473,31 @@ fn random_sheets_are_written_the_same_both_ways() {
     });
 }
 
+/// Why a record of a few was drawn or not, on a sheet made to be drawn from and then perhaps spoilt.
+fn random_why(generator: &mut Generator) -> Reason {
+    let n = generator.between(1, 40);
+    let (mut words, records, mut k, mut w) = sheets::n_to_draw_from(generator, n);
+    if generator.once_in(8) {
+        words.truncate(generator.below(words.len() + 1));
+    }
+    match generator.below(32) {
+        0 => k = generator.one_of(&[0, n + 1]),
+        1 => w = k + 1,
+        _ => {}
+    }
+    let mut sheet = laid_out(&words, &records, k as u32, w as u32, [0; 3], generator.once_in(2));
+    if generator.once_in(32) {
+        sheet.pop();
+    }
+    let place = if generator.once_in(8) { generator.one_of(&numbers_beside(n)) } else { generator.below(n) };
+    why(&sheet, place)
+}
+
+#[test]
+fn why_a_record_was_drawn_or_not_in_random_draws_is_the_same_both_ways() {
+    random_cases(109, 100_000, &[0, 1, 3, 7, 10], |generator| random_why(generator).no);
+}
+
 // ---- Long lists and draws ----
 
 #[test]
@@ -521,5 +564,18 @@ fn the_longest_sheets_are_written_and_read_the_same_both_ways() {
             read_sheet(&sheet, [a, n]);
         }
         assert_eq!(write_sheet(&words[..a], &records, 1, 1, 70_000).no, 2);
+    }
+}
+
+#[test]
+fn why_a_record_of_the_longest_sheets_was_drawn_or_not_is_the_same_both_ways() {
+    let mut generator = Generator::new(110);
+    for (n, k) in sheets::LONGEST_DRAWS {
+        let words = sheets::words_that_roll(k, &sheets::rolls_for(&mut generator, n, k));
+        let sheet = laid_out(&words, &generator.records(n), k as u32, 1, [0; 3], false);
+        for place in [k - 1, k.min(n - 1), generator.below(n), n - 1] {
+            assert_eq!(why(&sheet, place).no, 0, "{k} of {n} records, place {place}");
+        }
+        assert_eq!(why(&sheet, n).no, 7);
     }
 }

@@ -11,6 +11,7 @@
 //! | products, the cut | multiplies; a bound joins or not | divides; every end of a batch is tried |
 //! | shuffle | exchanges records | takes from the last place on, along links; no record moves |
 //! | sample | overwrites slots | follows each record: its slot, and whether a later record takes it |
+//! | why a record was drawn or not | fills slots with places, and notes who is put out | sorts all that held a slot |
 //! | words behind rolls | a quotient | a search among all words |
 //! | rolls behind an order | shuffles, and looks records up | follows each record through the rolls before |
 //! | sheet | areas as ranges of bytes | marks the bytes one by one |
@@ -24,7 +25,7 @@ mod records;
 pub mod sheet;
 pub mod word;
 
-use crate::raw::{Answer, Batch, Behind, Drawn, Numbers, Written};
+use crate::raw::{Answer, Batch, Behind, Drawn, Numbers, Reason, Written};
 use batches::{by_cut, by_size, MAX_BATCH};
 use word::{accepted, rolls_of, run_behind, share};
 
@@ -153,9 +154,14 @@ pub fn sample(words: &[u64], start: usize, records: &[u32], k: usize, lent: &mut
 fn sampled(words: &[u64], start: usize, records: &[u32], k: usize, room: usize) -> Outcome<u32> {
     let n = records.len();
     refuse(start, &[(2, n > MAX_RECORDS), (3, !(1..=n).contains(&k)), (6, room < k), (9, start > words.len())])?;
-    let bounds: Vec<u64> = (1..=n as u64).skip(k).collect();
-    let (answer, rolls) = roll(words, start, &by_cut(&bounds))?;
+    let (answer, rolls) = roll_sample(words, start, n, k)?;
     Ok((answer, records::sampled(records, k, &rolls)))
+}
+
+/// The rolls of a sample of k from n records, where there is one.
+fn roll_sample(words: &[u64], start: usize, n: usize, k: usize) -> Outcome<u64> {
+    let bounds: Vec<u64> = (1..=n as u64).skip(k).collect();
+    roll(words, start, &by_cut(&bounds))
 }
 
 /// Names the rolls behind an order in the lent list.
@@ -199,10 +205,14 @@ pub fn read_sheet(sheet: &[u8], lent_words: &mut [u64], lent_records: &mut [u32]
 
 fn read(sheet: &[u8], word_room: usize, record_room: usize) -> Result<(Numbers, Vec<u64>, Vec<u32>), Answer> {
     let (numbers, words, records) = sheet::read(sheet).ok_or(refused(1, 0, 0))?;
-    let (k, least_k) = (numbers.k as usize, numbers.w.max(1) as usize);
     let is_short = words.len() > word_room || records.len() > record_room;
-    refuse(0, &[(3, !(least_k..=records.len()).contains(&k)), (6, is_short)])?;
+    refuse(0, &[(3, !has_a_sample(numbers)), (6, is_short)])?;
     Ok((numbers, words, records))
+}
+
+/// Whether k and w are allowed beside a sheet's count of records.
+fn has_a_sample(Numbers { records, k, w, .. }: Numbers) -> bool {
+    (w.max(1)..=records).contains(&k)
 }
 
 /// Writes a draw sheet into the lent list.
@@ -219,4 +229,17 @@ fn written(words: &[u64], records: &[u32], k: usize, w: usize, room: usize) -> O
     let bytes = sheet::write(words, records, k, w);
     refuse(0, &[(6, bytes.len() > room)])?;
     Ok((DONE_WITHOUT_WORDS, bytes))
+}
+
+/// Tells why the record at a place of a draw sheet was drawn or not.
+pub fn why(sheet: &[u8], place: usize) -> Reason {
+    explained(sheet, place).unwrap_or_else(|Answer { no, batch, .. }| Reason { no, batch, ..Reason::default() })
+}
+
+fn explained(sheet: &[u8], place: usize) -> Result<Reason, Answer> {
+    let (numbers, words, records) = sheet::read(sheet).ok_or(refused(1, 0, 0))?;
+    let (k, n) = (numbers.k as usize, records.len());
+    refuse(0, &[(3, !has_a_sample(numbers)), (7, !(0..n).contains(&place))])?;
+    let (Answer { next, rejected, .. }, rolls) = roll_sample(&words, 0, n, k)?;
+    Ok(Reason { next, rejected, ..records::reason(place, k, &rolls) })
 }

@@ -1,5 +1,7 @@
-//! What rolls do to records, and the rolls behind an order. No record is moved: each is followed.
+//! What rolls do to records, why a record was drawn or not, and the rolls behind an order. No record is moved: each is
+//! followed.
 
+use crate::raw::Reason;
 use std::collections::BTreeSet;
 
 /// The shuffle from the last place on. A roll names the place whose record is taken for the last place of those left.
@@ -40,6 +42,23 @@ pub fn sampled(records: &[u32], k: usize, rolls: &[u64]) -> Vec<u32> {
     }
     kept.sort_unstable_by_key(|&(slot, _)| slot);
     kept.into_iter().map(|(_, record)| record).collect()
+}
+
+/// Why the record at a place was drawn or not. All that ever held a slot stand in one row, by slot and then by place:
+/// the next in the row, if it held the same slot, took it. Who never held a slot is not in the row.
+pub fn reason(place: usize, k: usize, rolls: &[u64]) -> Reason {
+    let slots = (0..k as u64).chain(rolls.iter().copied());
+    let mut row: Vec<(u64, usize)> = slots.zip(0..).filter(|&(slot, _)| slot < k as u64).collect();
+    row.sort_unstable();
+    let Some(at) = row.iter().position(|&(_, holder)| holder == place) else {
+        return Reason { reason: 4, roll: rolls[place - k], ..Reason::default() };
+    };
+    let (slot, _) = row[at];
+    let held = Reason { slot: slot as usize, ..Reason::default() };
+    match row.get(at + 1) {
+        Some(&(same, next)) if same == slot => Reason { reason: 3, by_place: next, by_step: next - k, ..held },
+        _ => Reason { reason: if place < k { 1 } else { 2 }, ..held },
+    }
 }
 
 /// Whether a list is each of 0..n - 1 once: n different records, all of them below n.

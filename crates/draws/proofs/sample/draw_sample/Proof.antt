@@ -1,39 +1,78 @@
--- `draws::sample::draw_sample` meets its contract: whether the words suffice, and then the slots. Assumes nothing.
-use mathlib.Core.Path.{_∙_, sym, ap}
-use mathlib.Core.List.{_++_}
-use Prim.Native.Nat.{ℕ, _^_}
-use lib.ListN.{length, take, drop}
+-- `draws::sample::draw_sample` meets its contract: the rolls stand in front of a local array, and where the words suffice the reservoir is
+-- run with them. Assumes nothing.
+use mathlib.Core.Path.{_≡_, _∙_, sym, ap}
+use mathlib.Core.List.{List, _++_}
+use Prim.Native.Nat.{ℕ, _+_, _-_, _≤_}
+use native.Mathlib.Omega.{arith}
+use lib.ListN.{length, take, drop, replicate, length-replicate}
 use borrow.Author.Tests.{le-ltb}
 use Rattle.rules.specs.Run.{run, trace, rollsOf}
-use Rattle.rules.specs.Cut.{cut}
-use Rattle.rules.specs.Width.{w64}
-use Rattle.answers.proofs.Deciding.{in-count, supplied-enough, refused-seen, done-seen}
 use Rattle.rules.specs.Reservoir.{reservoir}
-use Rattle.draws.proofs.Sampling.{bounds-no-zero}
-use Rattle.draws.proofs.OneSample.{sample-short, sample-done}
+use Rattle.rules.specs.Width.{w64}
 use Rattle.rules.proofs.Reservoir.{length-sample}
+use Rattle.answers.proofs.Deciding.{in-count, refused-seen, done-seen}
+use Rattle.draws.specs.Sample.{samplePlan}
+use Rattle.draws.proofs.OneSample.{sample-short, sample-done}
+use Rattle.draws.proofs.Rolled.{rolled-whole}
+use Rattle.draws.proofs.Sampling.{prefix-count, array-kept, prefix-back, slots-drawn}
 use borrow.Author.Needs.{needs}
 use Rattle.draws.proofs.sample.draw_sample.Statement.{statement}
 use Rattle.draws.proofs.sample.draw_sample.Tie as tie
 
-supply-list-requires : tie.Need-supply-list-requires
-supply-list-requires c κs = let start = c .before .before .before .before in
-    (start .pre .0 .0, bounds-no-zero (start .args .bounds .now) (length (start .args .records .now)) (start .args .k) (start .pre .1))
+-- the number of rolls, n - k
+abbrev roll-total : tie.Start → ℕ
+roll-total s = length (s .args .records .now) - s .args .k
+
+fits : (s : tie.Start) → roll-total s ≤ length (replicate {A = ℕ} 16384 0)
+fits s = rw (length-replicate {A = ℕ} 16384 0) (omega (arith, s .pre .1))
+
+abbrev begin : tie.After-roll-sample → tie.Start
+begin w = w .before .before .before .before .before
+
+-- the array after the rolls were written, and its front
+abbrev array : tie.After-roll-sample → List ℕ
+array w = w .roll-sample .last .1 .1 .1 .1 .0 ++ drop (roll-total (begin w)) (replicate {A = ℕ} 16384 0)
+
+abbrev front : tie.After-roll-sample → List ℕ
+front w = take (roll-total (begin w)) (array w)
+
+written : (w : tie.After-roll-sample) → front w ≡ w .roll-sample .last .1 .1 .1 .1 .0
+written w = prefix-back (replicate 16384 0) (w .roll-sample .last .1 .1 .1 .1 .0) (roll-total (begin w)) (fits (begin w)) (w .roll-sample .kept .1 .1 .1 .1 .0)
+
+front-count : (w : tie.After-roll-sample) → roll-total (begin w) ≡ length (front w)
+front-count w = rw (written w) (prefix-count (replicate 16384 0) (roll-total (begin w)) (fits (begin w)) ∙ sym (w .roll-sample .kept .1 .1 .1 .1 .0))
+
+sub-count : tie.Need-sub-count
+sub-count c = search needs
+
+array-borrow-prefix-rolls : tie.Need-array-borrow-prefix-rolls
+array-borrow-prefix-rolls c = search needs
+
+slice-aggregate-roll-sample : tie.Need-slice-aggregate-roll-sample
+slice-aggregate-roll-sample c = let start = c .before .before .before .before in prefix-count (replicate 16384 0) (roll-total start) (fits start)
+
+roll-sample-requires : tie.Need-roll-sample-requires
+roll-sample-requires c κs = let start = c .before .before .before .before in
+    (start .pre .0, start .pre .1, start .pre .3, omega (arith, prefix-count (replicate 16384 0) (roll-total start) (fits start)))
 
 enum-known-next : tie.Need-enum-known-next
 enum-known-next c = search needs
 
-fill-slots-requires : tie.Need-fill-slots-requires
-fill-slots-requires c κs = let after-next = c .before .before in
-    let start = after-next .before .before .before .before .before .before .before in
-    let args = start .args in (
-      (start .pre .0 .0, start .pre .0 .1, start .pre .0 .3, start .pre .0 .4),
-      (
-        start .pre .1,
-        supplied-enough (args .start) (run 64 (cut (2 ^ 56) (args .bounds .now)) (args .words .now) (args .start)) _ _
-            (sym (after-next .before .before .supply-list .ensures) ∙ after-next .next .given .1) .enough,
-      ),
-    )
+take-first-requires : tie.Need-take-first-requires
+take-first-requires c κs = search needs
+
+array-share-prefix-rolls : tie.Need-array-share-prefix-rolls
+array-share-prefix-rolls c = let w = c .before .before .before .before .before .before .before .before in
+    rw (array-kept (replicate 16384 0) (w .roll-sample .last .1 .1 .1 .1 .0) (roll-total (begin w)) (fits (begin w)) (w .roll-sample .kept .1 .1 .1 .1 .0)) (fits (begin w))
+
+slice-aggregate-take-later : tie.Need-slice-aggregate-take-later
+slice-aggregate-take-later c = front-count (c .before .before .before .before .before .before .before .before .before)
+
+take-later-requires : tie.Need-take-later-requires
+take-later-requires c κs = let after-take-first = c .before .before .before .before in
+    let w = c .before .before .before .before .before .before .before .before .before .before in
+    let start = begin w in
+    (omega (arith, front-count w, start .pre .3), omega (arith, after-take-first .take-first .kept .1 .1 .0, start .pre .4))
 
 done-answer-requires : tie.Need-done-answer-requires
 done-answer-requires c κs = search needs
@@ -48,36 +87,49 @@ same-length : tie.Need-same-length
 same-length c = search needs
 
 returns : tie.Need-returns
-returns c = let after-next = c .before .before .before .before .before .before in
-    let start = after-next .before .before .before .before .before .before .before in
-    let args = start .args in
-    let r = run 64 (cut (2 ^ 56) (args .bounds .now)) (args .words .now) (args .start) in
-    let js = rollsOf 64 (cut (2 ^ 56) (args .bounds .now)) (trace r) in
-    let told = sym (after-next .before .before .supply-list .ensures) ∙ after-next .next .given .1 in
-    done-seen _ _ (args .start) r _ _ (args .slots .now) _ _
-    (sample-done w64 (args .words .now) (args .start) (args .records .now) (args .k) (length (args .slots .now))
-    (in-count 0 16384 (length (args .records .now)) (search needs) (start .pre .0 .1)) (in-count 1 (length (args .records .now)) (args .k) (start .pre .0 .2) (start .pre .0 .3))
-    (le-ltb _ _ (start .pre .0 .4)) (start .pre .0 .0) (args .bounds .now) (start .pre .1) _ _ told) told (c .done-answer .ensures)
-    (c .before .before .before .fill-slots .ensures
-    ∙ ap (λ (m : ℕ). reservoir (take (args .k) (args .records .now)) (drop (args .k) (args .records .now)) js ++ drop m (args .slots .now)) (sym (length-sample (args .records .now) js (args .k) (start .pre .0 .3))))
+returns c = let after-take-first = c .before .before .before .before .before .before .before .before in
+    let told = c .before .before .before .before .before .before .before .before .before .before .before in
+    let w = told .before .before .before in
+    let start = begin w in
+    let a = start .args in
+    let n = length (a .records .now) in
+    let r = run 64 (samplePlan w64 n (a .k)) (a .words .now) (a .start) in
+    let js = rollsOf 64 (samplePlan w64 n (a .k)) (trace r) in
+    let e = sym (w .roll-sample .ensures .0) ∙ told .next .given .1 in
+    let rolls = written w ∙ w .roll-sample .ensures .1 ∙ rolled-whole (a .words .now) (a .start) n (a .k) _ _ e _ (prefix-count (replicate 16384 0) (roll-total start) (fits start)) in
+    done-seen _ _ (a .start) r _ _ (a .slots .now) _ _
+    (sample-done w64 (a .words .now) (a .start) (a .records .now) (a .k) (length (a .slots .now))
+    (in-count 0 16384 n (search needs) (start .pre .1)) (in-count 1 n (a .k) (start .pre .2) (start .pre .3))
+    (le-ltb _ _ (start .pre .4)) (start .pre .0) _ _ e) e (c .done-answer .ensures)
+    (slots-drawn (a .records .now) (a .slots .now) (after-take-first .take-first .last .1 .1 .0) (a .k) js _ (start .pre .3) (after-take-first .take-first .ensures)
+    (c .before .before .before .take-later .ensures ∙ ap (λ (vs : List ℕ). reservoir (take (a .k) (after-take-first .take-first .last .1 .1 .0)) (drop (a .k) (a .records .now)) vs ++ drop (a .k) (after-take-first .take-first .last .1 .1 .0)) rolls)
+    ∙ ap (λ (m : ℕ). reservoir (take (a .k) (a .records .now)) (drop (a .k) (a .records .now)) js ++ drop m (a .slots .now)) (sym (length-sample (a .records .now) js (a .k) (start .pre .3))))
 
 returns-2 : tie.Need-returns-2
-returns-2 c = let after-batch = c .before .before in
-    let start = after-batch .before .before .before .before .before .before .before in
-    let args = start .args in
+returns-2 c = let told = c .before .before in
+    let w = told .before .before .before in
+    let start = begin w in
+    let a = start .args in
+    let n = length (a .records .now) in
     refused-seen _ 10 _ _ _ _
-    (sample-short w64 (args .words .now) (args .start) (args .records .now) (args .k) (length (args .slots .now))
-    (in-count 0 16384 (length (args .records .now)) (search needs) (start .pre .0 .1)) (in-count 1 (length (args .records .now)) (args .k) (start .pre .0 .2) (start .pre .0 .3))
-    (le-ltb _ _ (start .pre .0 .4)) (start .pre .0 .0) (args .bounds .now) (start .pre .1) _ (sym (after-batch .before .before .supply-list .ensures) ∙ after-batch .batch .given .1))
+    (sample-short w64 (a .words .now) (a .start) (a .records .now) (a .k) (length (a .slots .now))
+    (in-count 0 16384 n (search needs) (start .pre .1)) (in-count 1 n (a .k) (start .pre .2) (start .pre .3))
+    (le-ltb _ _ (start .pre .4)) (start .pre .0) _ (sym (w .roll-sample .ensures .0) ∙ told .batch .given .1))
     (c .refused-answer .ensures)
 
 pub draw-sample-spec : {M : Type 1} → statement M
 draw-sample-spec =
     tie.close
     (tie.spec
-    supply-list-requires
+    sub-count
+    array-borrow-prefix-rolls
+    slice-aggregate-roll-sample
+    roll-sample-requires
     enum-known-next
-    fill-slots-requires
+    take-first-requires
+    array-share-prefix-rolls
+    slice-aggregate-take-later
+    take-later-requires
     done-answer-requires
     enum-known-batch
     refused-answer-requires

@@ -1,33 +1,12 @@
--- `draws::sample::sample_records` meets its contract, refusal by refusal (OneSample); the bounds stand in front of a local array.
--- Assumes nothing.
-use mathlib.Core.Path.{_≡_, _∙_, sym, ap}
-use mathlib.Core.List.{_++_}
-use Prim.Native.Nat.{ℕ, _+_, _-_, _≤_}
-use native.Mathlib.Omega.{arith}
-use lib.ListN.{length, take, drop, replicate, length-replicate}
+-- `draws::sample::sample_records` meets its contract, refusal by refusal (OneSample). Assumes nothing.
+use lib.ListN.{length}
 use borrow.Author.Tests.{lt-ltb, le-ltb}
 use Rattle.answers.proofs.Deciding.{in-count, below-count, above-count, refused-seen}
 use Rattle.rules.specs.Width.{w64}
-use Rattle.rules.specs.Reservoir.{countup}
-use Rattle.draws.proofs.Sampling.{prefix-count, array-kept, prefix-back}
 use Rattle.draws.proofs.OneSample.{sample-count, sample-size, sample-room, sample-start}
 use borrow.Author.Needs.{needs}
 use Rattle.draws.proofs.sample.sample_records.Statement.{statement}
 use Rattle.draws.proofs.sample.sample_records.Tie as tie
-
--- the number of bounds, n - k
-abbrev bound-total : tie.Else5 → ℕ
-bound-total e =
-    let a = e .before .before .before .before .before .before .before .before .args in
-    length (a .records .now) - a .k
-
-fits : (e : tie.Else5) → bound-total e ≤ length (replicate {A = ℕ} 16384 0)
-fits e = rw (length-replicate {A = ℕ} 16384 0) (omega (arith, e .before .before .before .before .if1 .left))
-
--- the bounds as they stand in the array after they were laid out
-laid : (w : tie.After-count-up)
-    → take (bound-total (w .before .before)) (w .count-up .last .0 ++ drop (bound-total (w .before .before)) (replicate {A = ℕ} 16384 0)) ≡ w .count-up .last .0
-laid w = prefix-back (replicate 16384 0) (w .count-up .last .0) (bound-total (w .before .before)) (fits (w .before .before)) (w .count-up .kept .0)
 
 refused-answer-requires : tie.Need-refused-answer-requires
 refused-answer-requires c κs = search needs
@@ -78,35 +57,8 @@ returns-5 c = let args = c .before .before .before .before .before .before .befo
     (in-count 1 (length (args .records .now)) (args .k) (search needs) (search needs)) (le-ltb _ _ (c .before .before .if4 .left)) (c .before .if5 .taken))
     (c .refused-answer5 .ensures)
 
-array-borrow-prefix-bounds : tie.Need-array-borrow-prefix-bounds
-array-borrow-prefix-bounds c = search needs
-
-slice-aggregate-count-up : tie.Need-slice-aggregate-count-up
-slice-aggregate-count-up c = prefix-count (replicate 16384 0) (bound-total (c .before)) (fits (c .before))
-
-add-count-up : tie.Need-add-count-up
-add-count-up c = search needs
-
-count-up-requires : tie.Need-count-up-requires
-count-up-requires c κs = let past5 = c .before in
-    omega (arith, prefix-count (replicate 16384 0) (bound-total past5) (fits past5), fits past5, past5 .before .before .before .before .if1 .left, length-replicate {A = ℕ} 16384 0)
-
-array-share-prefix-bounds : tie.Need-array-share-prefix-bounds
-array-share-prefix-bounds c = let after-count-up = c .before in
-    let past5 = after-count-up .before .before in
-    rw (array-kept (replicate 16384 0) (after-count-up .count-up .last .0) (bound-total past5) (fits past5) (after-count-up .count-up .kept .0)) (fits past5)
-
-slice-aggregate-draw-sample : tie.Need-slice-aggregate-draw-sample
-slice-aggregate-draw-sample c = let after-count-up = c .before .before in
-    let past5 = after-count-up .before .before in
-    rw (laid after-count-up) (prefix-count (replicate 16384 0) (bound-total past5) (fits past5) ∙ sym (after-count-up .count-up .kept .0))
-
 draw-sample-requires : tie.Need-draw-sample-requires
-draw-sample-requires c κs = let after-count-up = c .before .before .before in
-    let past5 = after-count-up .before .before in (
-      (past5 .if5 .left, past5 .before .before .before .before .if1 .left, past5 .before .before .before .if2 .left, past5 .before .before .if3 .left, past5 .before .if4 .left),
-      laid after-count-up ∙ after-count-up .count-up .ensures ∙ ap (λ (m : ℕ). countup m (past5 .before .before .before .before .before .before .before .before .args .k + 1)) (sym (prefix-count (replicate 16384 0) (bound-total past5) (fits past5))),
-    )
+draw-sample-requires c κs = search needs
 
 same-length : tie.Need-same-length
 same-length c = search needs
@@ -128,12 +80,6 @@ sample-records-spec =
     returns-4
     refused-answer-requires-5
     returns-5
-    array-borrow-prefix-bounds
-    slice-aggregate-count-up
-    add-count-up
-    count-up-requires
-    array-share-prefix-bounds
-    slice-aggregate-draw-sample
     draw-sample-requires
     same-length
     returns-6)

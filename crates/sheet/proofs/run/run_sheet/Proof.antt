@@ -4,7 +4,7 @@ use mathlib.Core.Path.{_≡_}
 use Prim.Native.Nat.{ℕ, _≤_}
 use native.Mathlib.Omega.{arith}
 use lib.ListN.{length, replicate, length-replicate}
-use Rattle.sheet.proofs.Drawing.{Held, held, not-held, words-fit, words-count, records-fit, records-count, drawn-refused, drawn-done}
+use Rattle.sheet.proofs.Drawing.{Held, held, drawn-unread, words-fit, words-count, records-fit, records-count, drawn-refused, drawn-done}
 use borrow.Author.Needs.{needs}
 use Rattle.sheet.proofs.run.run_sheet.Statement.{statement}
 use Rattle.sheet.proofs.run.run_sheet.Tie as tie
@@ -17,8 +17,8 @@ begin e = e .before .before .before .before .before
 
 -- where the sheet was read, and not refused
 read : (e : tie.Else1) → let made = e .before .before .before .before in let a = begin made .args in
-    Held (a .sheet .now) (replicate 8188 0) (replicate 16377 0) (length (a .slots .now)) (made .read-sheet .result) (made .read-sheet .last .1 .0) (made .read-sheet .last .1 .1 .0)
-read e = held _ _ _ _ _ _ _ (zeros 8188) (zeros 16377) (e .before .before .before .before .read-sheet .ensures) (search needs)
+    Held (a .sheet .now) (replicate 8188 0) (replicate 16377 0) (made .read-sheet .result) (made .read-sheet .last .1 .0) (made .read-sheet .last .1 .1 .0)
+read e = held _ _ _ _ _ _ (zeros 8188) (zeros 16377) (e .before .before .before .before .read-sheet .ensures) (search needs)
 
 slice-aggregate-read-sheet : tie.Need-slice-aggregate-read-sheet
 slice-aggregate-read-sheet c = search needs
@@ -33,7 +33,7 @@ returns : tie.Need-returns
 returns c =
     let made = c .before .before .before .before in
     let a = made .before .before .before .before .before .args in
-    not-held (a .sheet .now) (replicate 8188 0) (replicate 16377 0) (length (a .slots .now)) _ _ _ (zeros 8188) (zeros 16377) (made .read-sheet .ensures) (a .slots .now) (search needs)
+    drawn-unread (a .sheet .now) (replicate 8188 0) (replicate 16377 0) _ _ _ (zeros 8188) (zeros 16377) (made .read-sheet .ensures) (length (a .slots .now)) (a .slots .now) (search needs)
 
 cast-m : tie.Need-cast-m
 cast-m c = search needs
@@ -42,16 +42,16 @@ cast-n : tie.Need-cast-n
 cast-n c = search needs
 
 array-share-prefix-words : tie.Need-array-share-prefix-words
-array-share-prefix-words c = words-fit _ _ _ _ _ _ _ (read (c .before .before))
+array-share-prefix-words c = words-fit _ _ _ _ _ _ (read (c .before .before))
 
 slice-aggregate-sample-records : tie.Need-slice-aggregate-sample-records
-slice-aggregate-sample-records c = words-count _ _ _ _ _ _ _ (read (c .before .before .before))
+slice-aggregate-sample-records c = words-count _ _ _ _ _ _ (read (c .before .before .before))
 
 array-share-prefix-records : tie.Need-array-share-prefix-records
-array-share-prefix-records c = records-fit _ _ _ _ _ _ _ (read (c .before .before .before))
+array-share-prefix-records c = records-fit _ _ _ _ _ _ (read (c .before .before .before))
 
 slice-aggregate-sample-records-2 : tie.Need-slice-aggregate-sample-records-2
-slice-aggregate-sample-records-2 c = records-count _ _ _ _ _ _ _ (read (c .before .before .before .before))
+slice-aggregate-sample-records-2 c = records-count _ _ _ _ _ _ (read (c .before .before .before .before))
 
 cast-sample-records : tie.Need-cast-sample-records
 cast-sample-records c = search needs
@@ -70,7 +70,7 @@ returns-2 c =
     let after-sample-records = c .before .before .before .before .before in
     let passed = after-sample-records .before .before .before .before .before .before .before in
     let a = begin (passed .before .before .before .before) .args in
-    drawn-refused _ _ _ _ _ _ _ (read passed) (a .slots .now) _ _ (after-sample-records .sample-records .ensures) _ (search needs) (c .refused-drawn .ensures)
+    drawn-refused _ _ _ _ _ _ (read passed) (length (a .slots .now)) (a .slots .now) _ _ (after-sample-records .sample-records .ensures) _ (search needs) (c .refused-drawn .ensures)
 
 same-length-2 : tie.Need-same-length-2
 same-length-2 c = search needs
@@ -80,7 +80,7 @@ returns-3 c =
     let after-sample-records = c .before .before .before .before in
     let passed = after-sample-records .before .before .before .before .before .before .before in
     let a = begin (passed .before .before .before .before) .args in
-    drawn-done _ _ _ _ _ _ _ (read passed) (a .slots .now) _ _ (after-sample-records .sample-records .ensures) (search needs)
+    drawn-done _ _ _ _ _ _ (read passed) (length (a .slots .now)) (a .slots .now) _ _ (after-sample-records .sample-records .ensures) (search needs)
 
 pub run-sheet-spec : {M : Type 1} → statement M
 run-sheet-spec =

@@ -1,4 +1,4 @@
--- `draws::sample::count_up` meets its contract. The loop's invariant: the first i numbers are written (Written). The measure is what is
+-- `draws::rolling::count_up` meets its contract. The loop's invariant: the first i numbers are written (Written). The measure is what is
 -- left of the list. Assumes nothing.
 use mathlib.Core.Path.{_∙_, sym, ap}
 use mathlib.Core.List.{List, _++_, append-nil}
@@ -11,8 +11,8 @@ use lib.Seq.{drop-length}
 use Rattle.rules.proofs.Writing.{Written, written-none, written-turn, written-whole}
 use Rattle.rules.specs.Reservoir.{countup}
 use Rattle.rules.proofs.Rows.{length-countup, getD-countup}
-use Rattle.draws.proofs.sample.count_up.Statement.{statement}
-use Rattle.draws.proofs.sample.count_up.Tie as tie
+use Rattle.draws.proofs.rolling.count_up.Statement.{statement}
+use Rattle.draws.proofs.rolling.count_up.Tie as tie
 
 abbrev Inv-loop : tie.InvT-loop
 Inv-loop bounds₀ from i₀ bounds i = Written (countup (length bounds₀) from) (length bounds₀) bounds₀ bounds i

@@ -1,0 +1,225 @@
+-- Why a place was drawn or not. An answer that tells what happened to the place is the answer that is given: nothing else happened, and the
+-- method gives one series of rolls. Assumes nothing.
+--
+--   none-refused                 nothing refuses where no number is given
+--   rolled, answered, placed     where nothing refuses: the rolls of the draw, the answer, and that the place is below n
+--   can-meet, demand1, when, demand2, settled, stand-ins    parts of the promise
+use mathlib.Core.Path.{_≡_, refl, sym, ap, subst, _∙_}
+use mathlib.Core.Logic.{_↔_, _⊎_, inl, inr, _≢_}
+use mathlib.Core.Bool.{Bool, false}
+use mathlib.Core.List.{List, [], _∷_, _++_}
+use Prim.Native.Nat.{ℕ, _+_, _-_, _^_, _<_, _≤_}
+use native.Mathlib.Omega.{arith}
+use lib.Dec.{leb, lit<}
+use lib.ListN.{length}
+use borrow.Author.Tests.{leb-false, lt-leb}
+use Rattle.rules.specs.Cut.{cut, cutFrom}
+use Rattle.rules.specs.Order.{placeOf}
+use Rattle.rules.specs.Reservoir.{countup}
+use Rattle.rules.specs.Rolls.{rolls, rest, product}
+use Rattle.rules.specs.Run.{Run, Taken, run, runFrom, find, trace, rollsOf, next, rejected}
+use Rattle.rules.specs.Width.{Width, w64}
+use Rattle.rules.proofs.Widths.{good64}
+use Rattle.answers.specs.Outcome.{Outcome, Refusal, no, noWord, decide, fromRun}
+use Rattle.areas.specs.Area.{little, entries, bytesOf, area}
+use Rattle.draws.specs.Sample.{samplePlan}
+use Rattle.sheet.specs.Sheet.{Numbers, numbers, wordsOf}
+use Rattle.writer.specs.WriteSheet.{written}
+use Rattle.reasons.specs.Fate.{fateOf}
+use Rattle.reasons.specs.Happened.{Happened, Tells}
+use Rattle.reasons.specs.Why.{whyRefusals, why, told, shownWhy, seenWhy}
+use Rattle.reasons.specs.declared.fate.Fate.{Fate}
+use Rattle.reasons.specs.declared.fate.Fate.the-variants as fate
+use Rattle.reasons.specs.declared.why.Reason.{Reason}
+use Rattle.reasons.proofs.Fates.{fate-happened, fate-only}
+use Rattle.reasons.proofs.Pinned.{reasons-pinned}
+use Rattle.promises.specs.Demand1.{firstOf}
+use Rattle.promises.specs.Demand2.{Allowed}
+use Rattle.promises.specs.Sheet.{Bytes}
+use Rattle.promises.specs.Why.{Op, CanMeet, When, Explains, Demand1, Demand2, Settled, StandIns}
+use Rattle.promises.proofs.Calls.{allBelow, all-below}
+use Rattle.promises.proofs.Method.{same-outcome}
+use Rattle.promises.proofs.Refusing.{Numbered, as-refused, allowed-cons, allowed-done, numbered-no, numbered-word, settle, ten-last}
+use Rattle.promises.proofs.Sheet.{fits, ten-or-none, rollable, method, roll-count}
+use Rattle.promises.proofs.Which.{differ, neither, which, none-applies, tested-sound, tested-size}
+
+-- ---- what refuses
+
+pub can-meet : (W : Width) → CanMeet W
+can-meet W s place = ten-last (run (W .bits) (samplePlan W (numbers s .records) (numbers s .k)) (wordsOf s) 0) (1 ∷ 3 ∷ 7 ∷ [])
+
+pub demand1 : (W : Width) → Demand1 W (seenWhy W)
+unfolding why
+demand1 W s place b =
+    let plan : List (List ℕ) = samplePlan W (numbers s .records) (numbers s .k) in
+    let ts : List Taken = trace (run (W .bits) plan (wordsOf s) 0) in
+    as-refused (shownWhy (numbers s .k) place) (shownWhy (numbers s .k) place) (λ (x : Reason). x .no) (λ n b. refl) (λ n b. refl)
+    (fromRun (W .bits) plan (wordsOf s) 0 (λ js. js))
+    (reasons-pinned .answers .used (next 0 ts) (rejected 0 ts) (fateOf (numbers s .k) (rollsOf (W .bits) plan ts) place) .0)
+    (whyRefusals W s place) (seenWhy W s place) refl
+
+tested-place : (n place : ℕ) → (leb n place ≡ false) ↔ (place < n)
+tested-place n place = (leb-false n place, lt-leb n place)
+
+pub when : (W : Width) (s : List ℕ) (place : ℕ) → Bytes s → When s place (seenWhy W s place .no)
+when W s place b =
+    let h : Numbers = numbers s in
+    let r : Run = run (W .bits) (samplePlan W (h .records) (h .k)) (wordsOf s) 0 in
+    subst (When s place) (sym (demand1 W s place b .lowest))
+    (which
+    (record {
+      numbers = (differ tt, differ tt, differ tt);
+      rests = (neither 1 0 10 (differ tt) (differ tt), neither 3 0 10 (differ tt) (differ tt), neither 7 0 10 (differ tt) (differ tt));
+    })
+    (noWord r ∷ []) (ten-or-none 7 (differ tt) (differ tt) r) _ _ _
+    (tested-sound s) (tested-size (h .records) (h .k) (h .w)) (tested-place (h .records) place))
+
+numbered : (s : List ℕ) (place : ℕ) → Numbered (whyRefusals w64 s place)
+numbered s place = numbered-no 1 _ _ (lit< tt) (numbered-no 3 _ _ (lit< tt) (numbered-no 7 _ _ (lit< tt)
+    (numbered-word (run 64 (samplePlan w64 (numbers s .records) (numbers s .k)) (wordsOf s) 0))))
+
+pub none-refused : (s : List ℕ) (place : ℕ) → Bytes s → seenWhy w64 s place .no ≡ 0 → Allowed (whyRefusals w64 s place)
+none-refused s place b z = none-applies (whyRefusals w64 s place) (numbered s place) (sym (demand1 w64 s place b .lowest) ∙ z)
+
+-- ---- what is told
+
+module _ (s : List ℕ) where
+  abbrev n : ℕ
+  n = numbers s .records
+
+  abbrev k : ℕ
+  k = numbers s .k
+
+  abbrev plan : List (List ℕ)
+  plan = samplePlan w64 n k
+
+  abbrev ts : List Taken
+  ts = trace (run 64 plan (wordsOf s) 0)
+
+  abbrev pub rolled : List ℕ
+  rolled = rollsOf 64 plan ts
+
+  module _ (place : ℕ) (a : Allowed (whyRefusals w64 s place)) where
+    pub answered : seenWhy w64 s place ≡ told (next 0 ts) (rejected 0 ts) (fateOf k rolled place)
+    unfolding why
+    answered = ap (shownWhy k place) (allowed-done (whyRefusals w64 s place) (fromRun 64 plan (wordsOf s) 0 (λ js. js)) a)
+
+    pub placed : place < n
+    placed = leb-false n place (allowed-cons _ _ (allowed-cons _ _ (allowed-cons _ _ a .1) .1) .0)
+
+    other : Refusal
+    other = no 7 (leb n place)
+
+    module _ (b : Bytes s) where
+      explains : Explains w64 s place (seenWhy w64 s place)
+      unfolding other
+      explains = rw answered (go (fateOf k rolled place) (fate-happened k rolled place (rw (roll-count good64 s other a b) placed)))
+        where
+          go : (f : Fate) → Happened k rolled place f → Explains w64 s place (told (next 0 ts) (rejected 0 ts) f)
+          go (fate.Stayed slot) h =
+              record { none = (refl, refl); method = method good64 s other a b _ (inl (refl, h, refl, refl, refl)) }
+          go (fate.RolledIn slot) h =
+              record { none = (refl, refl); method = method good64 s other a b _ (inr (inl (refl, h, refl, refl, refl))) }
+          go (fate.Taken slot by step) h =
+              record { none = (refl, refl); method = method good64 s other a b _ (inr (inr (inl (refl, h, refl)))) }
+          go (fate.PassedOver roll) h =
+              record { none = (refl, refl); method = method good64 s other a b _ (inr (inr (inr (refl, h, refl, refl, refl)))) }
+
+pub demand2 : Demand2 w64 (seenWhy w64)
+demand2 s place b a = explains s place a b
+
+-- ---- one answer
+
+-- what tells what happened tells what is computed
+tells-told : (k : ℕ) (js : List ℕ) (p : ℕ) (r : Reason) → (r .no ≡ 0) × (r .batch ≡ 0) → Tells k js p r → r ≡ told (r .next) (r .rejected) (fateOf k js p)
+tells-told k js p r (z, y) (inl (e, h, a, b, c)) =
+    let same : r ≡ told (r .next) (r .rejected) (fate.Stayed (r .slot)) = λ i. record {
+      no = z i;
+      next = r .next;
+      rejected = r .rejected;
+      batch = y i;
+      reason = e i;
+      slot = r .slot;
+      «by_place» = a i;
+      «by_step» = b i;
+      roll = c i;
+    } in
+    same ∙ ap (told (r .next) (r .rejected)) (fate-only k js p (fate.Stayed (r .slot)) h)
+tells-told k js p r (z, y) (inr (inl (e, h, a, b, c))) =
+    let same : r ≡ told (r .next) (r .rejected) (fate.RolledIn (r .slot)) = λ i. record {
+      no = z i;
+      next = r .next;
+      rejected = r .rejected;
+      batch = y i;
+      reason = e i;
+      slot = r .slot;
+      «by_place» = a i;
+      «by_step» = b i;
+      roll = c i;
+    } in
+    same ∙ ap (told (r .next) (r .rejected)) (fate-only k js p (fate.RolledIn (r .slot)) h)
+tells-told k js p r (z, y) (inr (inr (inl (e, h, c)))) =
+    let same : r ≡ told (r .next) (r .rejected) (fate.Taken (r .slot) (r .«by_place») (r .«by_step»)) = λ i. record {
+      no = z i;
+      next = r .next;
+      rejected = r .rejected;
+      batch = y i;
+      reason = e i;
+      slot = r .slot;
+      «by_place» = r .«by_place»;
+      «by_step» = r .«by_step»;
+      roll = c i;
+    } in
+    same ∙ ap (told (r .next) (r .rejected)) (fate-only k js p (fate.Taken (r .slot) (r .«by_place») (r .«by_step»)) h)
+tells-told k js p r (z, y) (inr (inr (inr (e, h, a, b, c)))) =
+    let same : r ≡ told (r .next) (r .rejected) (fate.PassedOver (r .roll)) = λ i. record {
+      no = z i;
+      next = r .next;
+      rejected = r .rejected;
+      batch = y i;
+      reason = e i;
+      slot = a i;
+      «by_place» = b i;
+      «by_step» = c i;
+      roll = r .roll;
+    } in
+    same ∙ ap (told (r .next) (r .rejected)) (fate-only k js p (fate.PassedOver (r .roll)) h)
+
+one-answer : (s : List ℕ) (place : ℕ) → Allowed (whyRefusals w64 s place) → Bytes s → (a b : Reason) → Explains w64 s place a → Explains w64 s place b → a ≡ b
+one-answer s place al bytes a b x y =
+    let (e, f, h) = same-outcome 64 (plan s) (wordsOf s) (rollable good64 s (no 7 (leb (n s) place)) al) (fits s bytes .0) 0 _ _ _ _ _ _ (x .method) (y .method) in
+    tells-told (k s) (x .method .rolls) place a (x .none) (x .method .reading)
+    ∙ (λ i. told (e i) (f i) (fateOf (k s) (h i) place))
+    ∙ sym (tells-told (k s) (y .method .rolls) place b (y .none) (y .method .reading))
+
+pub settled : Settled w64
+settled a b a1 a2 b1 b2 s place bytes =
+    settle (whyRefusals w64 s place) (shownWhy (numbers s .k) place) (λ (x : Reason). x .no) (numbered s place)
+    (a s place) (b s place) (a1 s place bytes) (b1 s place bytes) (λ al. one-answer s place al bytes _ _ (a2 s place bytes al) (b2 s place bytes al))
+
+-- ---- stand-ins
+
+-- two records alike, k = 1 and one word
+twins : ℕ → List ℕ
+twins word = written (word ∷ []) (7 ∷ 7 ∷ []) 1 1
+
+-- an operation that meets demand 2 gives the reason that is given
+as-given : (op : Op) → Demand2 w64 op → (s : List ℕ) (place : ℕ) → Allowed (whyRefusals w64 s place) → Bytes s → op s place .reason ≡ seenWhy w64 s place .reason
+as-given op d s place a b = ap (λ (r : Reason). r .reason) (one-answer s place a b _ _ (d s place b a) (explains s place a b))
+
+twins-bytes : (Bytes (twins 0)) × (Bytes (twins (2 ^ 63)))
+unfolding twins allBelow bytesOf area
+twins-bytes = (all-below 256 (twins 0) tt, all-below 256 (twins (2 ^ 63)) tt)
+
+pub stand-ins : StandIns w64
+unfolding twins why fateOf placeOf firstOf decide runFrom find rollsOf next rejected rolls rest product cut cutFrom countup little entries bytesOf area
+stand-ins = record {
+  refuses = λ op r d. let b = twins-bytes .0 in r (twins 0) 0 b (d (twins 0) 0 b refl .none .0);
+  by-record = λ op same d.
+      let s = twins 0 in
+      let b = twins-bytes .0 in
+      differ {m = 3} {n = 2} tt (sym (as-given op d s 0 refl b) ∙ same s 0 1 b refl ∙ as-given op d s 1 refl b);
+  blind = λ op same d.
+      let (b, c) = twins-bytes in
+      differ {m = 2} {n = 4} tt (sym (as-given op d (twins 0) 1 refl b) ∙ same (twins 0) (twins (2 ^ 63)) 1 b c refl refl ∙ as-given op d (twins (2 ^ 63)) 1 refl c);
+}

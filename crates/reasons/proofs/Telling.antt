@@ -1,0 +1,82 @@
+-- What the caller of why sees. Assumes nothing.
+--
+--   told-done, told-short    the sample was rolled, or its words did not suffice
+--   why-unread               the sheet was not read: refused as the reading was
+--   seen-past, seen-read     it was: refused by 7, or what is told of its sample
+use mathlib.Core.Path.{_≡_, sym, ap, ap₂, _∙_}
+use mathlib.Core.List.{List, [], _∷_}
+use Prim.Native.Nat.{ℕ, _<_, _≤_}
+use lib.Dec.{leb}
+use lib.ListN.{take}
+use borrow.Author.Tests.{le-leb, lt-leb}
+use Rattle.rules.specs.Run.{run, trace, rollsOf}
+use Rattle.rules.specs.Width.{w64}
+use Rattle.answers.specs.Outcome.{Outcome, refused, no, noWord, decide, fromRun}
+use Rattle.answers.specs.Supplied.{supplied}
+use Rattle.answers.specs.declared.supply.Supply.the-variants.{Enough, Short}
+use Rattle.answers.proofs.Deciding.{decide-here, decide-past, decide-append, supplied-enough}
+use Rattle.draws.specs.Sample.{samplePlan, rolledSample}
+use Rattle.draws.proofs.Rolled.{rolled-short, rolled-done}
+use Rattle.sheet.specs.ReadSheet.{unreadable}
+use Rattle.sheet.specs.Sheet.{numbers, wordsOf}
+use Rattle.sheet.specs.declared.read.Drawn.{Drawn}
+use Rattle.sheet.proofs.Drawing.{Held, words-front}
+use Rattle.reasons.specs.Fate.{fateOf}
+use Rattle.reasons.specs.Why.{why, told, shownWhy, seenWhy}
+use Rattle.reasons.specs.declared.fate.Fate.{Fate}
+use Rattle.reasons.specs.declared.why.Reason.{Reason}
+
+module _ (words : List ℕ) (n k place : ℕ) (r : Reason) where
+  pub told-done : (to more : ℕ) → supplied 0 (run 64 (samplePlan w64 n k) words 0) ≡ Enough to more
+      → (rolls : List ℕ) → rolls ≡ rollsOf 64 (samplePlan w64 n k) (trace (run 64 (samplePlan w64 n k) words 0))
+      → (fate : Fate) → fate ≡ fateOf k rolls place → r ≡ told to more fate → r ≡ shownWhy k place (rolledSample w64 words 0 n k)
+  told-done to more e rolls f fate g t =
+      let v = supplied-enough 0 (run 64 (samplePlan w64 n k) words 0) to more e in
+      let became : Fate = fateOf k (rollsOf 64 (samplePlan w64 n k) (trace (run 64 (samplePlan w64 n k) words 0))) place in
+      t ∙ ap (told to more) (g ∙ ap (λ (js : List ℕ). fateOf k js place) f)
+      ∙ ap₂ (λ (a b : ℕ). told a b became) (sym (v .place)) (sym (v .passed))
+      ∙ sym (ap (shownWhy k place) (rolled-done words 0 n k to more e))
+
+  pub told-short : (j : ℕ) → supplied 0 (run 64 (samplePlan w64 n k) words 0) ≡ Short j
+      → r ≡ shownWhy 0 0 (refused 10 j) → r ≡ shownWhy k place (rolledSample w64 words 0 n k)
+  told-short j e t = t ∙ sym (ap (shownWhy k place) (rolled-short words 0 n k j e))
+
+-- ---- of a sheet
+
+module _ (s : List ℕ) (place : ℕ) where
+  abbrev n : ℕ
+  n = numbers s .records
+
+  abbrev k : ℕ
+  k = numbers s .k
+
+  -- past numbers 1 and 3
+  abbrev later : Outcome
+  later = decide (no 7 (leb n place) ∷ noWord (run 64 (samplePlan w64 n k) (wordsOf s) 0) ∷ [])
+      (fromRun 64 (samplePlan w64 n k) (wordsOf s) 0 (λ rolls. rolls))
+
+  parted : why w64 s place ≡ decide (unreadable s) later
+  unfolding why
+  parted = decide-append (unreadable s) _ _
+
+  pub why-unread : (m batch : ℕ) → ((o : Outcome) → decide (unreadable s) o ≡ refused m batch) → why w64 s place ≡ refused m batch
+  why-unread m batch h = parted ∙ h later
+
+  -- where it was read into two lists, with the six numbers in d
+  module _ (wordRoom recordRoom : List ℕ) (d : Drawn) (ws xs : List ℕ) (v : Held s wordRoom recordRoom d ws xs) (r : Reason) where
+    same-n : d .records ≡ n
+    same-n = ap (λ (x : Drawn). x .records) (v .six)
+
+    same-k : d .k ≡ k
+    same-k = ap (λ (x : Drawn). x .k) (v .six)
+
+    pub seen-past : d .records ≤ place → r ≡ shownWhy 0 0 (refused 7 0) → r ≡ seenWhy w64 s place
+    seen-past h t = t ∙ sym (ap (shownWhy k place) (parted ∙ v .passed later ∙ decide-here _ _ _ (le-leb n place (rw (← same-n) h))))
+
+    pub seen-read : place < d .records → r ≡ shownWhy (d .k) place (rolledSample w64 (take (d .words) ws) 0 (d .records) (d .k)) → r ≡ seenWhy w64 s place
+    seen-read h t =
+        let e = words-front s wordRoom recordRoom d ws xs v in
+        let f = same-n in
+        let g = same-k in
+        let same : shownWhy (d .k) place (rolledSample w64 (take (d .words) ws) 0 (d .records) (d .k)) ≡ shownWhy k place (rolledSample w64 (wordsOf s) 0 n k) = cc in
+        t ∙ same ∙ sym (ap (shownWhy k place) (parted ∙ v .passed later ∙ decide-past _ _ _ (lt-leb n place (rw (← same-n) h))))

@@ -1,0 +1,107 @@
+-- `reasons::why::explain` meets its contract: the rolls of the sample stand in front of a local array, and tell what became of the place.
+-- Assumes nothing.
+use mathlib.Core.Path.{_≡_, _∙_, sym}
+use mathlib.Core.List.{List, _++_}
+use Prim.Native.Nat.{ℕ, _-_, _≤_, zero-le}
+use native.Mathlib.Omega.{arith}
+use lib.ListN.{length, take, drop, replicate, length-replicate}
+use Rattle.draws.proofs.Rolled.{rolled-whole}
+use Rattle.draws.proofs.Sampling.{prefix-count, array-kept, prefix-back}
+use Rattle.reasons.proofs.Telling.{told-done, told-short}
+use borrow.Author.Needs.{needs}
+use Rattle.reasons.proofs.why.explain.Statement.{statement}
+use Rattle.reasons.proofs.why.explain.Tie as tie
+
+-- the number of rolls, n - k
+abbrev roll-total : tie.Start → ℕ
+roll-total s = s .args .n - s .args .k
+
+fits : (s : tie.Start) → roll-total s ≤ length (replicate {A = ℕ} 16384 0)
+fits s = rw (length-replicate {A = ℕ} 16384 0) (omega (arith, s .pre .0))
+
+abbrev begin : tie.After-roll-sample → tie.Start
+begin w = w .before .before .before
+
+-- the array after the rolls were written, and its front
+abbrev array : tie.After-roll-sample → List ℕ
+array w = w .roll-sample .last .1 .1 .1 .1 .0 ++ drop (roll-total (begin w)) (replicate {A = ℕ} 16384 0)
+
+abbrev front : tie.After-roll-sample → List ℕ
+front w = take (roll-total (begin w)) (array w)
+
+written : (w : tie.After-roll-sample) → front w ≡ w .roll-sample .last .1 .1 .1 .1 .0
+written w = prefix-back (replicate 16384 0) (w .roll-sample .last .1 .1 .1 .1 .0) (roll-total (begin w)) (fits (begin w)) (w .roll-sample .kept .1 .1 .1 .1 .0)
+
+front-count : (w : tie.After-roll-sample) → roll-total (begin w) ≡ length (front w)
+front-count w = rw (written w) (prefix-count (replicate 16384 0) (roll-total (begin w)) (fits (begin w)) ∙ sym (w .roll-sample .kept .1 .1 .1 .1 .0))
+
+sub-count : tie.Need-sub-count
+sub-count c = search needs
+
+array-borrow-prefix-rolls : tie.Need-array-borrow-prefix-rolls
+array-borrow-prefix-rolls c = search needs
+
+slice-aggregate-roll-sample : tie.Need-slice-aggregate-roll-sample
+slice-aggregate-roll-sample c = let start = c .before .before in prefix-count (replicate 16384 0) (roll-total start) (fits start)
+
+roll-sample-requires : tie.Need-roll-sample-requires
+roll-sample-requires c κs = let start = c .before .before in
+    (zero-le, start .pre .0, start .pre .1, omega (arith, prefix-count (replicate 16384 0) (roll-total start) (fits start)))
+
+enum-known-next : tie.Need-enum-known-next
+enum-known-next c = search needs
+
+array-share-prefix-rolls : tie.Need-array-share-prefix-rolls
+array-share-prefix-rolls c = let w = c .before .before .before .before in
+    rw (array-kept (replicate 16384 0) (w .roll-sample .last .1 .1 .1 .1 .0) (roll-total (begin w)) (fits (begin w)) (w .roll-sample .kept .1 .1 .1 .1 .0)) (fits (begin w))
+
+slice-aggregate-fate-of : tie.Need-slice-aggregate-fate-of
+slice-aggregate-fate-of c = front-count (c .before .before .before .before .before)
+
+fate-of-requires : tie.Need-fate-of-requires
+fate-of-requires c κs = let w = c .before .before .before .before .before in
+    let start = begin w in
+    (omega (arith, front-count w, start .pre .1, start .pre .2), omega (arith, front-count w, start .pre .0, start .pre .1))
+
+tell-requires : tie.Need-tell-requires
+tell-requires c κs = search needs
+
+enum-known-batch : tie.Need-enum-known-batch
+enum-known-batch c = search needs
+
+refused-reason-requires : tie.Need-refused-reason-requires
+refused-reason-requires c κs = search needs
+
+returns : tie.Need-returns
+returns c = let told = c .before .before .before .before in
+    let w = told .before .before .before in
+    let start = begin w in
+    let a = start .args in
+    let e = sym (w .roll-sample .ensures .0) ∙ told .next .given .1 in
+    told-done (a .words .now) (a .n) (a .k) (a .place) _ _ _ e (front w)
+    (written w ∙ w .roll-sample .ensures .1 ∙ rolled-whole (a .words .now) 0 (a .n) (a .k) _ _ e _ (prefix-count (replicate 16384 0) (roll-total start) (fits start)))
+    _ (c .before .fate-of .ensures) (c .tell .ensures)
+
+returns-2 : tie.Need-returns-2
+returns-2 c = let told = c .before .before in
+    let w = told .before .before .before in
+    let a = begin w .args in
+    told-short (a .words .now) (a .n) (a .k) (a .place) _ _ (sym (w .roll-sample .ensures .0) ∙ told .batch .given .1) (c .refused-reason .ensures)
+
+pub explain-spec : {M : Type 1} → statement M
+explain-spec =
+    tie.close
+    (tie.spec
+    sub-count
+    array-borrow-prefix-rolls
+    slice-aggregate-roll-sample
+    roll-sample-requires
+    enum-known-next
+    array-share-prefix-rolls
+    slice-aggregate-fate-of
+    fate-of-requires
+    tell-requires
+    enum-known-batch
+    refused-reason-requires
+    returns
+    returns-2)

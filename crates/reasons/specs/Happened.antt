@@ -1,0 +1,54 @@
+-- What happened to a place in a draw of k by these rolls. The slots hold places: at first slot j holds place j, and at step i the slot that roll
+-- i names, if it is below k, gets place k + i.
+--
+--   slotsAfter k rolls t          the places that the slots hold when the first t steps are done, by the reservoir of the sample itself
+--   Holds k rolls slot p t        the slot holds place p when t steps are done
+--   turn k p                      how many steps are done when place p has had its turn: none for the first k; for a later place its own is
+--                                 the last
+--   HeldUntil k rolls slot p t    the slot holds place p from its turn until t steps are done
+--   Rolled k rolls p roll         place p has a roll, at its step p - k, and it is this one
+--   Happened k rolls p fate       this became of place p: the four reasons of document 02, as propositions about the slots and the rolls
+--   Tells k rolls p answer        the answer tells what happened to place p: the number of the reason, what it names, and 0 in the fields that do
+--                                 not apply
+use mathlib.Core.Path.{_≡_}
+use mathlib.Core.Logic.{_⊎_}
+use mathlib.Core.List.{List}
+use Prim.Native.Nat.{ℕ, _+_, _-_, _<_, _≤_}
+use lib.ListN.{length, take, getD}
+use Rattle.rules.specs.Reservoir.{countup, reservoir}
+use Rattle.reasons.specs.declared.fate.Fate.{Fate}
+use Rattle.reasons.specs.declared.fate.Fate.the-variants.{Stayed, RolledIn, Taken, PassedOver}
+use Rattle.reasons.specs.declared.why.Reason.{Reason}
+
+abbrev pub slotsAfter : ℕ → List ℕ → ℕ → List ℕ
+slotsAfter k rolls t = reservoir (countup k 0) (countup t k) (take t rolls)
+
+abbrev pub Holds : ℕ → List ℕ → ℕ → ℕ → ℕ → Type 0
+Holds k rolls slot p t = (slot < k) × (getD (slotsAfter k rolls t) slot 0 ≡ p)
+
+abbrev pub turn : ℕ → ℕ → ℕ
+turn k p = p + 1 - k
+
+abbrev pub HeldUntil : ℕ → List ℕ → ℕ → ℕ → ℕ → Type 0
+HeldUntil k rolls slot p t = (u : ℕ) → turn k p ≤ u → u ≤ t → Holds k rolls slot p u
+
+abbrev pub Rolled : ℕ → List ℕ → ℕ → ℕ → Type 0
+Rolled k rolls p roll = (k ≤ p) × (p < k + length rolls) × (getD rolls (p - k) 0 ≡ roll)
+
+abbrev pub Happened : ℕ → List ℕ → ℕ → Fate → Type 0
+-- "it was among the first k and stayed"
+Happened k rolls p (Stayed slot) = (p < k) × HeldUntil k rolls slot p (length rolls)
+-- "it was rolled into a slot at its step and stayed"
+Happened k rolls p (RolledIn slot) = Rolled k rolls p slot × HeldUntil k rolls slot p (length rolls)
+-- "it held a slot until a later record, named by place and step (place i has step i - k), took that slot"
+Happened k rolls p (Taken slot by step) =
+    (p < by) × (by ≡ k + step) × (step < length rolls) × HeldUntil k rolls slot p step × Holds k rolls slot by (step + 1)
+-- "its own roll was k or more, with the roll"
+Happened k rolls p (PassedOver roll) = Rolled k rolls p roll × (k ≤ roll)
+
+abbrev pub Tells : ℕ → List ℕ → ℕ → Reason → Type 0
+Tells k rolls p r =
+    ((r .reason ≡ 1) × Happened k rolls p (Stayed (r .slot)) × (r .«by_place» ≡ 0) × (r .«by_step» ≡ 0) × (r .roll ≡ 0))
+    ⊎ (((r .reason ≡ 2) × Happened k rolls p (RolledIn (r .slot)) × (r .«by_place» ≡ 0) × (r .«by_step» ≡ 0) × (r .roll ≡ 0))
+    ⊎ (((r .reason ≡ 3) × Happened k rolls p (Taken (r .slot) (r .«by_place») (r .«by_step»)) × (r .roll ≡ 0))
+    ⊎ ((r .reason ≡ 4) × Happened k rolls p (PassedOver (r .roll)) × (r .slot ≡ 0) × (r .«by_place» ≡ 0) × (r .«by_step» ≡ 0))))

@@ -1,0 +1,4 @@
+pub mod Fate
+pub mod Happened
+pub mod Pinned
+pub mod Why
