@@ -9,7 +9,7 @@
  * `next` (0 where the call takes none) and zeros elsewhere, except that HILDRASP_WORDS also names the first batch, from
  * 0, that got no word. Every lent list is then exactly what it was.
  *
- * Calls use the stack alone: hildrasp_sample about 256 KiB of it, hildrasp_run_sheet 384 KiB, hildrasp_why 400 KiB,
+ * Calls use the stack alone: hildrasp_sample about 256 KiB of it, hildrasp_run_sheet 384 KiB, hildrasp_why 320 KiB,
  * hildrasp_rolls_behind 64 KiB, the others little.
  */
 #ifndef HILDRASP_H
@@ -157,7 +157,7 @@ hildrasp_drawn hildrasp_read_sheet(const uint8_t *sheet, size_t byte_count,
  * hildrasp_run_sheet runs; `next` and `rejected` are those of the draw. It goes by place, since record numbers may
  * repeat. Refusals: 1, 3, 7 where the place isn't below the count of records, 10. Cost: linear in the counts of words
  * and records: the sheet is read once, the words are gone over in one dry run, each roll is made once, and one pass
- * over the rolls finds the reason; with about 400 KiB of stack.
+ * over the rolls finds the reason; with about 320 KiB of stack.
  */
 hildrasp_reason hildrasp_why(const uint8_t *sheet, size_t byte_count, size_t place);
 

@@ -371,21 +371,21 @@ pub fn read_sheet(sheet: &[u8], words: &mut [u64], records: &mut [u32]) -> Resul
 /// ```
 /// use hildrasp::{Reason, Refusal};
 ///
-/// // Two of four records by one word, 5 x 2^61. Record 307 has bound 3: 15 x 2^61 is 1 times 2^64 plus 7 x 2^61, so
-/// // its roll is 1, and it takes slot 1. Record 409 has bound 4: 28 x 2^61 is 3 times 2^64 plus 2^63, so its roll is
-/// // 3, and it takes none.
-/// let mut sheet = [0; 48];
-/// hildrasp::write_sheet(&[5 << 61], &[101, 205, 307, 409], 2, 1, &mut sheet)?;
+/// // Two of four records by the words 2^63 and 2^63 + 1. Bounds 3 and 4 are one batch; 2^64 mod 12 is 4. The first word
+/// // leaves a last r of 0 and is rejected. The second: 3 (2^63 + 1) is 1 times 2^64 plus 2^63 + 3, so record 309 rolls
+/// // 1 and takes slot 1; 4 (2^63 + 3) is 2 times 2^64 plus 12, so record 412 rolls 2 and takes none.
+/// let mut sheet = [0; 56];
+/// hildrasp::write_sheet(&[1 << 63, (1 << 63) + 1], &[101, 205, 309, 412], 2, 1, &mut sheet)?;
 /// assert_eq!(hildrasp::why(&sheet, 0)?.reason, Reason::Stayed { slot: 0 });
 /// assert_eq!(hildrasp::why(&sheet, 1)?.reason, Reason::Taken { slot: 1, by_place: 2, by_step: 0 });
 /// assert_eq!(hildrasp::why(&sheet, 2)?.reason, Reason::RolledIn { slot: 1 });
-/// assert_eq!(hildrasp::why(&sheet, 3)?.reason, Reason::PassedOver { roll: 3 });
+/// assert_eq!(hildrasp::why(&sheet, 3)?.reason, Reason::PassedOver { roll: 2 });
 /// assert_eq!(hildrasp::why(&sheet, 4), Err(Refusal::Misfit));
 ///
-/// // So the draw is 101 and 307.
+/// // So the draw is 101 and 309.
 /// let mut slots = [0; 2];
 /// let draw = hildrasp::run_sheet(&sheet, &mut slots)?;
-/// assert_eq!(slots, [101, 307]);
+/// assert_eq!(slots, [101, 309]);
 /// assert_eq!(hildrasp::why(&sheet, 3)?.used, draw.used);
 /// # Ok::<(), Refusal>(())
 /// ```

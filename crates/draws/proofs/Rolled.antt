@@ -4,7 +4,7 @@
 --   rolled-short, rolled-done  refused by 10, or done, by the answer of the dry run
 --   rolled-whole               what a list with room for the rolls alone then holds
 --   rolled-kept, rolled-left   what the lent list holds: what it held, or the rolls of the bounds as they were laid out
-use mathlib.Core.Path.{_≡_, refl, sym, ap, _∙_}
+use mathlib.Core.Path.{_≡_, sym, ap, _∙_}
 use mathlib.Core.Bool.{true}
 use mathlib.Core.List.{List, _++_, append-nil}
 use Prim.Native.Nat.{ℕ, _+_, _-_, _^_}

@@ -2,21 +2,20 @@
 --
 --   Later, later-none, later-taken, later-passed,    the loop of `take_later`: the later records, each with its roll
 --     later-done
---   prefix-count, array-kept, prefix-back            a local array, its first n places lent
+--   lent-count, back-fits, back-front, back-count    a local array, its first n places lent, and as it comes back
 --   slots-drawn                                      the slots in the end
 --   bounds-no-zero                                   none of the bounds of a sample is 0
 use mathlib.Core.Path.{_≡_, refl, sym, ap, ap₂, _∙_}
 use mathlib.Core.Bool.{false, _||_}
-use mathlib.Core.List.{List, _∷_, _++_, append-nil}
+use mathlib.Core.List.{List, _∷_, _++_}
 use Prim.Native.Nat.{ℕ, zero, suc, _+_, _-_, _<_, _≤_}
 use native.Mathlib.Omega.{arith}
-use lib.ListN.{length, take, drop, set, getD, length-set, take-append-drop, drop-of-length-le}
+use lib.ListN.{length, take, drop, set, getD, replicate, length-set, length-replicate, take-append-drop, drop-of-length-le}
 use lib.Seq.{take-at, drop-at, take-set-lt, drop-set-lt, length-take-le, length-front}
 use borrow.Author.Tests.{ne-eqb}
 use Rattle.rules.specs.Rolls.{hasZero}
 use Rattle.rules.proofs.Writing.{drop-next}
 use Rattle.rules.specs.Reservoir.{countup, reservoir}
-use Rattle.rules.proofs.Rows.{length-countup}
 use Rattle.rules.proofs.Reservoir.{reservoir-taken, reservoir-none, reservoir-passed}
 
 -- the records before place k + i have had their turn
@@ -61,17 +60,28 @@ module _ (xs : List ℕ) (k : ℕ) (js slots₀ slots : List ℕ) (i : ℕ) (v :
       = sym (ap (reservoir (take k slots) (drop (k + i) xs)) (drop-of-length-le js h) ∙ reservoir-none (take k slots) (drop (k + i) xs)) ∙ v .3 in
       sym (take-append-drop k slots) ∙ ap₂ _++_ front (v .2)
 
--- ---- a local array, its first n places lent: general over the array, so that no proof looks at its 16,384 zeros
+-- ---- a local array of zeros, its first n places lent: over its size, so that no proof looks at its 16,384 zeros
 
-pub prefix-count : (array : List ℕ) (n : ℕ) → n ≤ length array → n ≡ length (take n array)
-prefix-count array n h = sym (length-take-le n array h)
+module _ (size n : ℕ) (h : n ≤ size) where
+  abbrev zeros : List ℕ
+  zeros = replicate size 0
 
-module _ (array last : List ℕ) (n : ℕ) (h : n ≤ length array) where
-  pub array-kept : length last ≡ length (take n array) → length (last ++ drop n array) ≡ length array
-  array-kept e = length-front array last n e
+  fits : n ≤ length zeros
+  fits = rw (length-replicate {A = ℕ} size 0) h
 
-  pub prefix-back : length last ≡ length (take n array) → take n (last ++ drop n array) ≡ last
-  prefix-back e = take-at last (drop n array) n (e ∙ sym (prefix-count array n h))
+  pub lent-count : n ≡ length (take n zeros)
+  lent-count = sym (length-take-le n zeros fits)
+
+  -- what was lent is last when it comes back
+  module _ (last : List ℕ) (e : length last ≡ length (take n zeros)) where
+    pub back-fits : n ≤ length (last ++ drop n zeros)
+    back-fits = rw (length-front zeros last n e) fits
+
+    pub back-front : take n (last ++ drop n zeros) ≡ last
+    back-front = take-at last (drop n zeros) n (e ∙ sym lent-count)
+
+    pub back-count : n ≡ length (take n (last ++ drop n zeros))
+    back-count = lent-count ∙ sym e ∙ ap length (sym back-front)
 
 -- ---- the slots in the end
 

@@ -25,7 +25,7 @@ use Rattle.promises.specs.Demand2.{Allowed}
 use Rattle.promises.specs.Batch.{Op, Numbers, Rolled, Demand1, Demand2, Settled, StandIns, Promise}
 use Rattle.promises.proofs.Calls.{one-number, word-0, word-half, words-01, words-11}
 use Rattle.promises.proofs.Method.{by-method, rolled-count, same-outcome}
-use Rattle.promises.proofs.Refusing.{as-refused, allowed-cons, allowed-done, numbered-bounds, numbered-words, settle, ten-last}
+use Rattle.promises.proofs.Refusing.{as-refused, allowed-cons, allowed-done, named-bounds, named-words, numbered-bounds, numbered-words, settle, ten-last}
 
 pub allowed-batch : (W : Width) (bs : List ℕ) (rs : List Refusal) → Allowed (ofBounds W bs ++ rs) → Rollable (2 ^ W .bits) bs × Allowed rs
 allowed-batch W bs rs a =
@@ -45,6 +45,7 @@ demand1 : (W : Width) → Demand1 W (seenBatch W)
 unfolding rollBatch
 demand1 W words start bs w b =
     as-refused (shownBatch start) (shownBatch start) (λ (a : Batch). a .no) (λ n k. refl) (λ n k. refl) _ refl (batchRefusals W words start bs)
+    (named-bounds W bs _ (named-words (W .bits) (bs ∷ []) words start))
     (seenBatch W words start bs) refl
 
 demand2 : (W : Width) → Demand2 W (seenBatch W)

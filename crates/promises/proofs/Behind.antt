@@ -28,7 +28,7 @@ use Rattle.promises.specs.Behind.{Op, Numbers, FullRun, Gives, Demand1, 
 use Rattle.promises.proofs.Batch.{allowed-batch}
 use Rattle.promises.proofs.Calls.{one-number}
 use Rattle.promises.proofs.Method.{accepts-iff}
-use Rattle.promises.proofs.Refusing.{truth, as-refused, allowed-cons, numbered-nil, numbered-no, numbered-bounds, settle}
+use Rattle.promises.proofs.Refusing.{truth, as-refused, allowed-cons, named-nil, named-no, named-bounds, numbered-nil, numbered-no, numbered-bounds, settle}
 
 pos-no-zero : (bs : List ℕ) → 0 < product bs → hasZero bs ≡ false
 unfolding hasZero product
@@ -62,7 +62,8 @@ numbers W bs rs = refl
 demand1 : (W : Width) → Demand1 W (seenBehind W)
 unfolding wordsBehind
 demand1 W bs rs w v =
-    as-refused shownBehind shownBehind (λ (a : Behind). a .no) (λ n b. refl) (λ n b. refl) _ refl (behindRefusals W bs rs) (seenBehind W bs rs) refl
+    as-refused shownBehind shownBehind (λ (a : Behind). a .no) (λ n b. refl) (λ n b. refl) _ refl (behindRefusals W bs rs)
+    (named-bounds W bs _ (named-no 7 _ _ named-nil)) (seenBehind W bs rs) refl
 
 demand2 : (W : Width) → Demand2 W (seenBehind W)
 demand2 W bs rs w v a =

@@ -39,7 +39,7 @@ use Rattle.promises.specs.Shuffle.{Op, MovesNothing, FirstBatchOnly}
 use Rattle.promises.proofs.Calls.{one-number}
 use Rattle.promises.proofs.Demand3.{produces, same-at, demand3}
 use Rattle.promises.proofs.Firsts.{firsts, firsts-count, firsts-in, firsts-below}
-use Rattle.promises.proofs.Refusing.{truth, beside-refused}
+use Rattle.promises.proofs.Refusing.{truth, beside-refused, named-no, named-words}
 use Rattle.promises.proofs.Shuffle.{plan-fits, demand1}
 
 -- ---- rolls of 0, and then rolls that exchange each record with itself
@@ -195,7 +195,8 @@ unfolding first-batch shuffle
 first-some = (
   first-batch,
   record {
-    refuses = λ words start xs. beside-refused start xs (shuffleRefusals w64 words start (length xs)) _ _ (seenShuffle w64 words start xs) refl .lowest;
+    refuses = λ words start xs. beside-refused start xs (shuffleRefusals w64 words start (length xs))
+        (named-no 2 _ _ (named-words 64 (shufflePlan (w64 .size) (length xs)) words start)) _ _ (seenShuffle w64 words start xs) refl .lowest;
     moves = λ words start xs z. refl;
   },
 )

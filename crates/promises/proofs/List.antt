@@ -23,7 +23,7 @@ use Rattle.promises.specs.Demand2.{Allowed, ByMethod}
 use Rattle.promises.specs.List.{Op, Numbers, Demand1, Demand2, Bounds, Settled, StandIns, Promise}
 use Rattle.promises.proofs.Calls.{below-nil, one-number, word-0, word-half, words-01, words-11}
 use Rattle.promises.proofs.Method.{by-method, rolled-count, same-seen}
-use Rattle.promises.proofs.Refusing.{beside-refused, allowed-cons, allowed-done, numbered-no, numbered-words, settle, ten-last}
+use Rattle.promises.proofs.Refusing.{beside-refused, allowed-cons, allowed-done, named-no, named-words, numbered-no, numbered-words, settle, ten-last}
 
 numbers : (W : Width) → Numbers W
 numbers W words start bs room = ten-last (run (W .bits) (cut (W .limit) bs) words start) (2 ∷ 4 ∷ 6 ∷ 9 ∷ [])
@@ -34,7 +34,8 @@ bounds W g bs zeros below =
 
 demand1 : (W : Width) → Demand1 W (seenList W)
 unfolding rollList
-demand1 W words start bs lent w b = beside-refused start lent (listRefusals W words start bs (length lent)) _ _ (seenList W words start bs lent) refl
+demand1 W words start bs lent w b = beside-refused start lent (listRefusals W words start bs (length lent))
+    (named-no 2 _ _ (named-no 4 _ _ (named-no 6 _ _ (named-words (W .bits) (cut (W .limit) bs) words start)))) _ _ (seenList W words start bs lent) refl
 
 module _ (W : Width) (g : GoodWidth W) where
   demand2 : Demand2 W (seenList W)

@@ -23,7 +23,7 @@ use Rattle.answers.proofs.Deciding.{decide-past, decide-none, in-count}
 use Rattle.orders.specs.Order.{orderRefusals, rollsBehind, seenOrder}
 use Rattle.promises.specs.Demand1.{firstOf}
 use Rattle.promises.specs.Order.{Op, Numbers, Demand1, Demand2, Settled, StandIns, Promise}
-use Rattle.promises.proofs.Refusing.{truth, beside-refused, allowed-cons, numbered-nil, numbered-no, settle}
+use Rattle.promises.proofs.Refusing.{truth, beside-refused, allowed-cons, named-nil, named-no, numbered-nil, numbered-no, settle}
 use Rattle.promises.proofs.Shuffle.{few-records}
 
 pub order-done : (ys : List ℕ) (room : ℕ) → length ys ≤ maxRecords → length ys - 1 ≤ room → T (isOrder ys)
@@ -38,7 +38,7 @@ numbers ys room = refl
 
 demand1 : Demand1 seenOrder
 unfolding rollsBehind
-demand1 ys lent = beside-refused 0 lent (orderRefusals ys (length lent)) _ _ (seenOrder ys lent) refl
+demand1 ys lent = beside-refused 0 lent (orderRefusals ys (length lent)) (named-no 2 _ _ (named-no 6 _ _ (named-no 8 _ _ named-nil))) _ _ (seenOrder ys lent) refl
 
 demand2 : Demand2 seenOrder
 unfolding next rejected

@@ -28,7 +28,7 @@ use Rattle.promises.specs.Demand2.{Allowed}
 use Rattle.promises.specs.Read.{Op, CanMeet, When, Demand1, Demand2, Settled, StandIns, Promise}
 use Rattle.promises.specs.Sheet.{Bytes}
 use Rattle.promises.proofs.Calls.{allBelow, all-below}
-use Rattle.promises.proofs.Refusing.{as-refused, allowed-done, Numbered, numbered-nil, numbered-no, settle}
+use Rattle.promises.proofs.Refusing.{as-refused, allowed-done, Numbered, named-nil, named-no, numbered-nil, numbered-no, settle}
 use Rattle.promises.proofs.Which.{differ, which, none-applies, tested-sound, tested-size, tested-room}
 
 can-meet : CanMeet
@@ -61,7 +61,8 @@ module _ (s words records : List ℕ) where
 demand1 : Demand1 seenRead
 demand1 s words records =
     as-refused (Seen s words records) (λ o. (shownDrawn s o, (words, records))) (λ (x : Drawn × (List ℕ × List ℕ)). x .0 .no) (λ n b. refl) (λ n b. refl)
-    (done [] []) refl (readRefusals s (length words) (length records)) (seenRead s words records) (seen-read s words records)
+    (done [] []) refl (readRefusals s (length words) (length records)) (named-no 1 _ _ (named-no 3 _ _ (named-no 6 _ _ named-nil)))
+    (seenRead s words records) (seen-read s words records)
 
 numbered : (s : List ℕ) (m n : ℕ) → Numbered (readRefusals s m n)
 numbered s m n = numbered-no 1 _ _ (lit< tt) (numbered-no 3 _ _ (lit< tt) (numbered-no 6 _ _ (lit< tt) numbered-nil))

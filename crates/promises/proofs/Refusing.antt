@@ -1,6 +1,7 @@
 -- The first refusal of a list, over every operation. Assumes nothing.
 --
 --   truth                       a test that holds is true
+--   Named, named-nil, named-no, named-word, named-words, named-bounds    no number but 10 names a batch
 --   as-refused                  a refusal is the first one, alone, whatever an operation's answer looks like
 --   beside-refused              and so of an answer beside a lent list
 --   allowed-cons, allowed-done  where no refusal applies: none of the list does, and the outcome is not refused
@@ -23,7 +24,7 @@ use Rattle.rules.specs.Width.{Width}
 use Rattle.rules.proofs.Facts.{clash}
 use Rattle.answers.specs.Outcome.{Outcome, refused, Refusal, decide}
 use Rattle.answers.proofs.Deciding.{decide-here, decide-past, decide-none}
-use Rattle.answers.specs.Outcome.{done, no, noWord, ofBounds, ofWords, shown, left, seen}
+use Rattle.answers.specs.Outcome.{done, no, noWord, ofBounds, ofWords, shown, seen}
 use Rattle.answers.specs.declared.answer.Answer.{Answer}
 use Rattle.promises.specs.Demand1.{firstOf, AsRefused, numbersOf, Rising, Lowest, FirstIsLowest}
 use Rattle.promises.specs.Demand2.{Allowed}
@@ -41,35 +42,66 @@ module _ (r : Refusal) (rs : List Refusal) where
   unfolding firstOf
   first-past e = rw (e, firstOf)
 
+-- ---- only number 10 names a batch
+
+abbrev pub Named : List Refusal → Type 0
+Named rs = firstOf rs .number ≢ 10 → firstOf rs .batch ≡ 0
+
+pub named-nil : Named []
+unfolding firstOf
+named-nil h = refl
+
+pub named-no : (n : ℕ) (b : Bool) (rs : List Refusal) → Named rs → Named (no n b ∷ rs)
+unfolding firstOf
+named-no n true rs m h = refl
+named-no n false rs m h = m h
+
+pub named-word : (r : Run) → Named (noWord r ∷ [])
+unfolding firstOf
+named-word (ran ts) h = refl
+named-word (short k) h = absurd (h refl)
+
+pub named-words : (L : ℕ) (plan : List (List ℕ)) (words : List ℕ) (start : ℕ) → Named (ofWords L plan words start)
+named-words L plan words start = named-no 9 _ _ (named-word (run L plan words start))
+
+pub named-bounds : (W : Width) (bs : List ℕ) (rs : List Refusal) → Named rs → Named (ofBounds W bs ++ rs)
+named-bounds W bs rs m = named-no 2 _ _ (named-no 4 _ _ (named-no 5 _ _ m))
+
+-- ---- the first refusal is given
+
 -- what a caller gets of an outcome, with its number; where nothing is refused the outcome is o
 module _ {A : Type 0} (show saying : Outcome → A) (number : A → ℕ) (says : (n batch : ℕ) → show (refused n batch) ≡ saying (refused n batch))
     (numbers : (n batch : ℕ) → number (saying (refused n batch)) ≡ n) (o : Outcome) (none : number (show o) ≡ 0) where
   abbrev told : Refusal → A
   told r = saying (refused (r .number) (r .batch))
 
-  pub as-refused : (rs : List Refusal) (got : A) → got ≡ show (decide rs o) → AsRefused rs saying (number got) got
+  refused-so : (rs : List Refusal) (got : A) → got ≡ show (decide rs o) → (number got ≡ firstOf rs .number) × (number got ≢ 0 → got ≡ told (firstOf rs))
   unfolding firstOf
-  as-refused [] got e =
+  refused-so [] got e =
       let z : number got ≡ 0 = ap number (e ∙ ap show (decide-none o)) ∙ none in
-      record { lowest = z; whole = λ n. absurd (n z) }
-  as-refused (r ∷ rs) got e = go (r .applies) refl (as-refused rs got)
+      (z, λ n. absurd (n z))
+  refused-so (r ∷ rs) got e = go (r .applies) refl (refused-so rs got)
     where
-      go : (b : Bool) → r .applies ≡ b → (got ≡ show (decide rs o) → AsRefused rs saying (number got) got) → AsRefused (r ∷ rs) saying (number got) got
+      go : (b : Bool) → r .applies ≡ b → (got ≡ show (decide rs o) → (number got ≡ firstOf rs .number) × (number got ≢ 0 → got ≡ told (firstOf rs)))
+          → (number got ≡ firstOf (r ∷ rs) .number) × (number got ≢ 0 → got ≡ told (firstOf (r ∷ rs)))
       go true f ih =
           let said : got ≡ told r = e ∙ ap show (decide-here r rs o f) ∙ says (r .number) (r .batch) in
           let first : r ≡ firstOf (r ∷ rs) = sym (first-here r rs f) in
-          record { lowest = ap number said ∙ numbers (r .number) (r .batch) ∙ ap (λ (x : Refusal). x .number) first; whole = λ n. said ∙ ap told first }
+          (ap number said ∙ numbers (r .number) (r .batch) ∙ ap (λ (x : Refusal). x .number) first, λ n. said ∙ ap told first)
       go false f ih =
           let g = ih (e ∙ ap show (decide-past r rs o f)) in
           let first : firstOf rs ≡ firstOf (r ∷ rs) = sym (first-past r rs f) in
-          record { lowest = g .lowest ∙ ap (λ (x : Refusal). x .number) first; whole = λ n. g .whole n ∙ ap told first }
+          (g .0 ∙ ap (λ (x : Refusal). x .number) first, λ n. g .1 n ∙ ap told first)
+
+  pub as-refused : (rs : List Refusal) → Named rs → (got : A) → got ≡ show (decide rs o) → AsRefused rs saying (number got) got
+  as-refused rs named got e = let so = refused-so rs got e in record { lowest = so .0; whole = so .1; named = λ h. named (λ z. h (so .0 ∙ z)) }
 
 -- an operation that gives an answer beside a lent list, and whose outcome is decided by its refusals and else done
-pub beside-refused : (start : ℕ) (lent : List ℕ) (refusals : List Refusal) (values : List ℕ) (ts : List Taken) (got : Answer × List ℕ)
+pub beside-refused : (start : ℕ) (lent : List ℕ) (refusals : List Refusal) → Named refusals → (values : List ℕ) (ts : List Taken) (got : Answer × List ℕ)
     → got ≡ seen start lent (decide refusals (done values ts)) → AsRefused refusals (λ o. (shown start o, lent)) (got .0 .no) got
-beside-refused start lent refusals values ts got e =
+beside-refused start lent refusals named values ts got e =
     as-refused (seen start lent) (λ o. (shown start o, lent)) (λ (x : Answer × List ℕ). x .0 .no) (λ n b. refl) (λ n b. refl)
-    (done values ts) refl refusals got e
+    (done values ts) refl refusals named got e
 
 -- ---- where no refusal applies
 

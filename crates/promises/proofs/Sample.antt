@@ -30,7 +30,7 @@ use Rattle.promises.specs.Sample.{Op, Numbers, Demand1, Demand2, Bounds,
 use Rattle.promises.proofs.Calls.{below-nil, word-0, word-half, words-01, words-11}
 use Rattle.promises.proofs.CouldComeUp.{comes-up}
 use Rattle.promises.proofs.Method.{by-method, same-seen}
-use Rattle.promises.proofs.Refusing.{beside-refused, allowed-cons, allowed-done, numbered-no, numbered-words, settle, ten-last}
+use Rattle.promises.proofs.Refusing.{beside-refused, allowed-cons, allowed-done, named-no, named-words, numbered-no, numbered-words, settle, ten-last}
 use Rattle.promises.proofs.Shuffle.{few-records}
 
 numbers : (W : Width) → Numbers W
@@ -45,7 +45,8 @@ plan-fits W g n k h = sample-plan (W .limit) (2 ^ W .bits) (le-of-lt (g .fits)) 
 demand1 : (W : Width) → Demand1 W (seenSample W)
 unfolding sample
 demand1 W words start xs k lent w =
-    beside-refused start lent (sampleRefusals W words start (length xs) k (length lent)) _ _ (seenSample W words start xs k lent) refl
+    beside-refused start lent (sampleRefusals W words start (length xs) k (length lent))
+    (named-no 2 _ _ (named-no 3 _ _ (named-no 6 _ _ (named-words (W .bits) (samplePlan W (length xs) k) words start)))) _ _ (seenSample W words start xs k lent) refl
 
 module _ (W : Width) (g : GoodWidth W) where
   demand2 : Demand2 W (seenSample W)

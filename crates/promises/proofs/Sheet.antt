@@ -7,14 +7,14 @@
 --   promise                                   the promise, at 64 bits
 use mathlib.Core.Path.{_≡_, refl, sym, ap, subst, _∙_}
 use mathlib.Core.Logic.{_⊎_, inl, inr, _≢_}
-use mathlib.Core.Bool.{Bool, false}
+use mathlib.Core.Bool.{false}
 use mathlib.Core.List.{List, [], _∷_, _++_}
 use Prim.Native.Nat.{ℕ, zero, suc, suc-le-suc, zero-le, _+_, _-_, _^_, _<_, _≤_}
 use native.Mathlib.Nat.{pow-succ'}
 use native.Mathlib.Omega.{arith}
 use lib.Dec.{ltb, lit≤, lit<}
 use lib.ListN.{length, take, drop}
-use borrow.Author.Tests.{le-ltb, ltb-false, not-false}
+use borrow.Author.Tests.{le-ltb, not-false}
 use Rattle.rules.specs.Limits.{maxRecords}
 use Rattle.rules.specs.Order.{AllBelow}
 use Rattle.rules.specs.Plan.{RollablePlan}
@@ -22,11 +22,10 @@ use Rattle.rules.specs.Reservoir.{countup, reservoir}
 use Rattle.rules.specs.Cut.{cut}
 use Rattle.rules.specs.Run.{Run, ran, short, run, runFrom, trace, rollsOf, next, rejected}
 use Rattle.rules.specs.Width.{Width, w64}
-use Rattle.rules.proofs.Facts.{or-left, or-right}
 use Rattle.rules.proofs.Reservoir.{length-sample}
 use Rattle.rules.proofs.Rows.{length-countup}
 use Rattle.rules.proofs.Widths.{GoodWidth, good64}
-use Rattle.answers.specs.Outcome.{Outcome, Refusal, no, noWord, ofWords, outside, left}
+use Rattle.answers.specs.Outcome.{Outcome, Refusal, no, noWord, ofWords, left}
 use Rattle.answers.specs.declared.answer.Answer.{Answer}
 use Rattle.areas.specs.Area.{little, number, entries}
 use Rattle.draws.specs.Sample.{samplePlan, sampled}
@@ -39,10 +38,10 @@ use Rattle.sheet.proofs.Running.{sheet-flat}
 use Rattle.sheet.proofs.Soundness.{sound-known, sound-iff, sheet-records}
 use Rattle.promises.specs.Demand1.{firstOf}
 use Rattle.promises.specs.Demand2.{Allowed, Lemire}
-use Rattle.promises.specs.Sheet.{Op, Bytes, CanMeet, Fits, When, answerOf, Draws, Demand1, Demand2, Settled, StandIns, Promise}
+use Rattle.promises.specs.Sheet.{Bytes, CanMeet, Fits, When, Draws, Demand1, Demand2, Settled, StandIns, Promise}
 use Rattle.promises.proofs.Calls.{below-nil, below-cons, allBelow, all-below}
 use Rattle.promises.proofs.Method.{by-method, rolled-count, same-seen}
-use Rattle.promises.proofs.Refusing.{Numbered, as-refused, first-past, allowed-cons, allowed-done, numbered-no, numbered-word, settle, ten-last}
+use Rattle.promises.proofs.Refusing.{Numbered, as-refused, first-past, allowed-cons, allowed-done, named-no, named-word, numbered-no, numbered-word, settle, ten-last}
 use Rattle.promises.proofs.Sample.{plan-fits}
 use Rattle.promises.proofs.Which.{differ, neither, which, none-applies, tested-sound, tested-size, tested-room}
 
@@ -77,7 +76,9 @@ can-meet W s room = ten-last (run (W .bits) (samplePlan W (numbers s .records) (
 demand1 : (W : Width) → Demand1 W (seenSheet W)
 demand1 W s lent b =
     as-refused (λ o. (shownDrawn s o, left lent o)) (λ o. (shownDrawn s o, lent)) (λ (x : Drawn × List ℕ). x .0 .no) (λ n b. refl) (λ n b. refl) _ refl
-    (sheetRefusals W s (length lent)) (seenSheet W s lent) (ap (λ (o : Outcome). (shownDrawn s o, left lent o)) (sheet-flat W s (length lent)))
+    (sheetRefusals W s (length lent))
+    (named-no 1 _ _ (named-no 3 _ _ (named-no 6 _ _ (named-word (run (W .bits) (samplePlan W (numbers s .records) (numbers s .k)) (wordsOf s) 0)))))
+    (seenSheet W s lent) (ap (λ (o : Outcome). (shownDrawn s o, left lent o)) (sheet-flat W s (length lent)))
 
 -- past the third number nothing is given, or 10
 pub ten-or-none : (third : ℕ) → (0 ≢ third) → (10 ≢ third) → (r : Run)

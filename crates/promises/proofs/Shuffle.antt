@@ -31,7 +31,7 @@ use Rattle.promises.specs.Demand2.{Allowed, ByMethod}
 use Rattle.promises.specs.Shuffle.{Op, Numbers, Demand1, Demand2, Bounds, Settled, StandIns, Promise}
 use Rattle.promises.proofs.Calls.{below-nil, word-0, word-half, words-01, words-10, words-11}
 use Rattle.promises.proofs.Method.{by-method, same-seen}
-use Rattle.promises.proofs.Refusing.{beside-refused, allowed-cons, allowed-done, numbered-no, numbered-words, settle, ten-last}
+use Rattle.promises.proofs.Refusing.{beside-refused, allowed-cons, allowed-done, named-no, named-words, numbered-no, numbered-words, settle, ten-last}
 
 pub few-records : (n : ℕ) → outside 0 maxRecords n ≡ false → n ≤ maxRecords
 few-records n e = ltb-false maxRecords n (or-right (ltb n 0) (ltb maxRecords n) e)
@@ -44,7 +44,8 @@ plan-fits W g = shuffle-plan (sizes-more (le-of-lt (g .fits)) (g .sizes))
 
 pub demand1 : (W : Width) → Demand1 W (seenShuffle W)
 unfolding shuffle
-demand1 W words start xs w = beside-refused start xs (shuffleRefusals W words start (length xs)) _ _ (seenShuffle W words start xs) refl
+demand1 W words start xs w = beside-refused start xs (shuffleRefusals W words start (length xs))
+    (named-no 2 _ _ (named-words (W .bits) (shufflePlan (W .size) (length xs)) words start)) _ _ (seenShuffle W words start xs) refl
 
 module _ (W : Width) (g : GoodWidth W) where
   demand2 : Demand2 W (seenShuffle W)

@@ -8,7 +8,7 @@ use mathlib.Core.Path.{_≡_, refl, sym, ap, _∙_}
 use mathlib.Core.Logic.{_↔_, _⊎_, inl, inr, _≢_}
 use mathlib.Core.Bool.{Bool, true, false}
 use mathlib.Core.List.{List, [], _∷_, _++_, map, append-nil}
-use Prim.Native.Nat.{ℕ, zero, suc, _+_, _^_, _<_, _≤_}
+use Prim.Native.Nat.{ℕ, zero, suc, _+_, _<_, _≤_}
 use native.Mathlib.Omega.{arith}
 use lib.Dec.{leb, ltb}
 use lib.ListN.{length, take, drop, getD, replicate, drop-of-length-le, length-replicate}
@@ -41,7 +41,6 @@ use Rattle.reasons.specs.declared.why.Reason.{Reason}
 use Rattle.reasons.proofs.Fates.{fate-drawn, fate-next, taken-range}
 use Rattle.reasons.proofs.Pinned.{reasons-pinned}
 use Rattle.reasons.proofs.Slots.{slots-last}
-use Rattle.promises.specs.Demand1.{firstOf}
 use Rattle.promises.specs.Demand2.{Allowed}
 use Rattle.promises.specs.Sheet.{Bytes}
 use Rattle.promises.specs.Why.{AsTheDraw, DrawnIn, NotDrawn, ThisDraw, Takers, Promise, table}

@@ -5,13 +5,12 @@
 --   rolled, answered, placed     where nothing refuses: the rolls of the draw, the answer, and that the place is below n
 --   can-meet, demand1, when, demand2, settled, stand-ins    parts of the promise
 use mathlib.Core.Path.{_≡_, refl, sym, ap, subst, _∙_}
-use mathlib.Core.Logic.{_↔_, _⊎_, inl, inr, _≢_}
-use mathlib.Core.Bool.{Bool, false}
-use mathlib.Core.List.{List, [], _∷_, _++_}
-use Prim.Native.Nat.{ℕ, _+_, _-_, _^_, _<_, _≤_}
+use mathlib.Core.Logic.{_↔_, inl, inr}
+use mathlib.Core.Bool.{false}
+use mathlib.Core.List.{List, [], _∷_}
+use Prim.Native.Nat.{ℕ, _^_, _<_}
 use native.Mathlib.Omega.{arith}
 use lib.Dec.{leb, lit<}
-use lib.ListN.{length}
 use borrow.Author.Tests.{leb-false, lt-leb}
 use Rattle.rules.specs.Cut.{cut, cutFrom}
 use Rattle.rules.specs.Order.{placeOf}
@@ -20,7 +19,7 @@ use Rattle.rules.specs.Rolls.{rolls, rest, product}
 use Rattle.rules.specs.Run.{Run, Taken, run, runFrom, find, trace, rollsOf, next, rejected}
 use Rattle.rules.specs.Width.{Width, w64}
 use Rattle.rules.proofs.Widths.{good64}
-use Rattle.answers.specs.Outcome.{Outcome, Refusal, no, noWord, decide, fromRun}
+use Rattle.answers.specs.Outcome.{Refusal, no, noWord, decide, fromRun}
 use Rattle.areas.specs.Area.{little, entries, bytesOf, area}
 use Rattle.draws.specs.Sample.{samplePlan}
 use Rattle.sheet.specs.Sheet.{Numbers, numbers, wordsOf}
@@ -39,7 +38,7 @@ use Rattle.promises.specs.Sheet.{Bytes}
 use Rattle.promises.specs.Why.{Op, CanMeet, When, Explains, Demand1, Demand2, Settled, StandIns}
 use Rattle.promises.proofs.Calls.{allBelow, all-below}
 use Rattle.promises.proofs.Method.{same-outcome}
-use Rattle.promises.proofs.Refusing.{Numbered, as-refused, allowed-cons, allowed-done, numbered-no, numbered-word, settle, ten-last}
+use Rattle.promises.proofs.Refusing.{Numbered, as-refused, allowed-cons, allowed-done, named-no, named-word, numbered-no, numbered-word, settle, ten-last}
 use Rattle.promises.proofs.Sheet.{fits, ten-or-none, rollable, method, roll-count}
 use Rattle.promises.proofs.Which.{differ, neither, which, none-applies, tested-sound, tested-size}
 
@@ -56,7 +55,7 @@ demand1 W s place b =
     as-refused (shownWhy (numbers s .k) place) (shownWhy (numbers s .k) place) (λ (x : Reason). x .no) (λ n b. refl) (λ n b. refl)
     (fromRun (W .bits) plan (wordsOf s) 0 (λ js. js))
     (reasons-pinned .answers .used (next 0 ts) (rejected 0 ts) (fateOf (numbers s .k) (rollsOf (W .bits) plan ts) place) .0)
-    (whyRefusals W s place) (seenWhy W s place) refl
+    (whyRefusals W s place) (named-no 1 _ _ (named-no 3 _ _ (named-no 7 _ _ (named-word (run (W .bits) plan (wordsOf s) 0))))) (seenWhy W s place) refl
 
 tested-place : (n place : ℕ) → (leb n place ≡ false) ↔ (place < n)
 tested-place n place = (leb-false n place, lt-leb n place)

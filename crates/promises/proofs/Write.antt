@@ -6,9 +6,9 @@
 --   promise          the promise
 use mathlib.Core.Path.{_≡_, refl, sym, ap, ap₂, subst, _∙_}
 use mathlib.Core.List.{List, [], _∷_, _++_}
-use Prim.Native.Nat.{ℕ, _+_, _*_, _/_, _%_, _^_}
+use Prim.Native.Nat.{ℕ, _+_}
 use native.Mathlib.Omega.{arith}
-use lib.Dec.{lit<, lit≤}
+use lib.Dec.{lit<}
 use lib.ListN.{length, take, drop, getD, replicate, take-append-drop}
 use lib.Seq.{drop-at}
 use borrow.Author.Tests.{ltb-false}
@@ -19,26 +19,24 @@ use Rattle.writer.proofs.Laid.{length-written, Fitting, laid-six, laid-words, l
 use Rattle.sheet.proofs.Reading.{right-size}
 use Rattle.promises.specs.Demand1.{firstOf}
 use Rattle.promises.specs.Demand2.{Allowed}
-use Rattle.promises.specs.Write.{Op, Callable, CanMeet, When, Writes, Demand1, Demand2, Settled, StandIns, Promise}
+use Rattle.promises.specs.Write.{Callable, CanMeet, Refuses, When, Writes, Demand1, Demand2, Settled, StandIns, Promise}
 use Rattle.promises.proofs.Calls.{below-nil, one-number}
-use Rattle.promises.proofs.Refusing.{as-refused, allowed-cons, allowed-done, Numbered, numbered-nil, numbered-no, settle}
+use Rattle.promises.proofs.Refusing.{as-refused, allowed-cons, allowed-done, Numbered, named-nil, named-no, numbered-nil, numbered-no, settle}
 use Rattle.promises.proofs.Which.{differ, which, none-applies, tested-size, tested-room}
 
 can-meet : CanMeet
 can-meet ws xs k w room = refl
 
-demand1 : Demand1 seenWrite
+-- on any lists
+refuses : (ws xs : List ℕ) (k w : ℕ) (lent : List ℕ) → Refuses ws xs k w lent (seenWrite ws xs k w lent)
 unfolding writeSheet
-demand1 ws xs k w lent b =
+refuses ws xs k w lent =
     as-refused (λ o. (shownWritten o, left lent o)) (λ o. (shownWritten o, lent)) (λ (x : Written × List ℕ). x .0 .no) (λ n b. refl) (λ n b. refl)
-    (done (written ws xs k w) []) refl (writeRefusals ws xs k w (length lent)) (seenWrite ws xs k w lent) refl
+    (done (written ws xs k w) []) refl (writeRefusals ws xs k w (length lent)) (named-no 2 _ _ (named-no 3 _ _ (named-no 6 _ _ named-nil)))
+    (seenWrite ws xs k w lent) refl
 
--- the number that is given, on any lists
-lowest : (ws xs : List ℕ) (k w : ℕ) (lent : List ℕ) → seenWrite ws xs k w lent .0 .no ≡ firstOf (writeRefusals ws xs k w (length lent)) .number
-unfolding writeSheet
-lowest ws xs k w lent =
-    as-refused (λ o. (shownWritten o, left lent o)) (λ o. (shownWritten o, lent)) (λ (x : Written × List ℕ). x .0 .no) (λ n b. refl) (λ n b. refl)
-    (done (written ws xs k w) []) refl (writeRefusals ws xs k w (length lent)) (seenWrite ws xs k w lent) refl .lowest
+demand1 : Demand1 seenWrite
+demand1 ws xs k w lent b = refuses ws xs k w lent
 
 numbered : (ws xs : List ℕ) (k w room : ℕ) → Numbered (writeRefusals ws xs k w room)
 numbered ws xs k w room = numbered-no 2 _ _ (lit< tt) (numbered-no 3 _ _ (lit< tt) (numbered-no 6 _ _ (lit< tt) numbered-nil))
@@ -46,12 +44,12 @@ numbered ws xs k w room = numbered-no 2 _ _ (lit< tt) (numbered-no 3 _ _ (lit< t
 -- what was written was not refused
 pub write-allowed : (ws xs : List ℕ) (k w : ℕ) (lent : List ℕ) → seenWrite ws xs k w lent .0 .no ≡ 0 → Allowed (writeRefusals ws xs k w (length lent))
 write-allowed ws xs k w lent z =
-    none-applies (writeRefusals ws xs k w (length lent)) (numbered ws xs k w (length lent)) (sym (lowest ws xs k w lent) ∙ z)
+    none-applies (writeRefusals ws xs k w (length lent)) (numbered ws xs k w (length lent)) (sym (refuses ws xs k w lent .lowest) ∙ z)
 
 when : (ws xs : List ℕ) (k w : ℕ) (lent : List ℕ) → When ws xs k w lent (seenWrite ws xs k w lent .0 .no)
 unfolding firstOf
 when ws xs k w lent =
-    subst (When ws xs k w lent) (sym (lowest ws xs k w lent))
+    subst (When ws xs k w lent) (sym (refuses ws xs k w lent .lowest))
     (which (record { numbers = (differ tt, differ tt, differ tt); rests = (differ tt, differ tt, differ tt) }) [] (refl, differ tt, differ tt, differ tt) _ _ _
     (tested-room 65535 (lengthOf ws xs)) (tested-size (length xs) k w) (tested-room (length lent) (lengthOf ws xs)))
 

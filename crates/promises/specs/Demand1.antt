@@ -10,7 +10,8 @@
 --   Callable L xs                      a call at width L can hold these words or bounds
 --   firstOf refusals                   the first whose test holds; number 0 where none holds
 --   AsRefused refusals saying no got   the number given is that of the first, and where it is not 0 the caller got what is said of that
---                                      refusal, alone: the answer that shows it (answers/specs/Outcome) and the lent list as it was
+--                                      refusal, alone: the answer that shows it (answers/specs/Outcome) and the lent list as it was; no
+--                                      number but 10 names a batch
 --   numbersOf refusals                 the numbers of a list of refusals, in their order
 --   Rising ns                          each number is below the next
 --   Lowest n refusals                  no refusal whose test holds has a number below n
@@ -41,6 +42,7 @@ firstOf (r ∷ rs) = elim (r .applies) [ true ↦ r | false ↦ firstOf rs ]
 pub record AsRefused {A : Type 0} (refusals : List Refusal) (saying : Outcome → A) (number : ℕ) (got : A) : Type 0 where
   pub lowest : number ≡ firstOf refusals .number
   pub whole : number ≢ 0 → got ≡ saying (refused (firstOf refusals .number) (firstOf refusals .batch))
+  pub named : number ≢ 10 → firstOf refusals .batch ≡ 0
 
 abbrev pub numbersOf : List Refusal → List ℕ
 numbersOf [] = []

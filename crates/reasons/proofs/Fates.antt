@@ -6,20 +6,23 @@
 --   fate-drawn       it is told to be drawn into a slot exactly where the slot holds it in the end
 --   taken-range      the taker of its slot is a later place, and has the step told
 --   fate-next        the taker was itself rolled into that slot, and stayed or was taken in turn
-use mathlib.Core.Path.{_≡_, refl, sym, ap₂, _∙_, subst}
+use mathlib.Core.Path.{_≡_, refl, sym, ap, ap₂, _∙_, subst}
 use mathlib.Core.Logic.{_↔_, _≢_, _⊎_, inl, inr}
 use mathlib.Core.List.{List}
-use Prim.Native.Nat.{ℕ, zero, suc, _+_, _-_, _<_, _≤_}
+use Prim.Native.Nat.{ℕ, _+_, _-_, _<_, _≤_}
 use native.Mathlib.Nat.{le-refl}
-use native.Mathlib.Decide.{ℕ-discrete, decLt}
+use native.Mathlib.Decide.{decLt}
 use native.Mathlib.Omega.{arith}
-use lib.ListN.{length, getD}
+use lib.ListN.{length, drop, getD, length-drop}
+use lib.Seq.{getD-drop}
+use Rattle.rules.specs.Order.{placeOf}
 use Rattle.rules.proofs.Facts.{clash}
+use Rattle.rules.proofs.Orders.{place-first}
 use Rattle.reasons.specs.Fate.{firstFrom, heldFrom, fateOf}
 use Rattle.reasons.specs.Happened.{turn, Holds, HeldUntil, Happened}
 use Rattle.reasons.specs.declared.fate.Fate.{Fate}
 use Rattle.reasons.specs.declared.fate.Fate.the-variants.{Stayed, RolledIn, Taken, PassedOver}
-use Rattle.reasons.proofs.Firsts.{first-here, first-past, first-end, held-stayed, held-taken, fate-first, fate-rolled, fate-passed}
+use Rattle.reasons.proofs.Firsts.{held-stayed, held-taken, fate-first, fate-rolled, fate-passed}
 use Rattle.reasons.proofs.Slots.{slots-first, slots-gets, slots-kept, slots-origin, slots-since}
 
 -- ---- the first roll that is a slot
@@ -29,17 +32,16 @@ abbrev First : ℕ → List ℕ → ℕ → ℕ → Type 0
 First slot rolls from i =
     (from ≤ i) × (i ≤ length rolls) × ((l : ℕ) → from ≤ l → l < i → getD rolls l 0 ≢ slot) × (i < length rolls → getD rolls i 0 ≡ slot)
 
-first : (slot : ℕ) (rolls : List ℕ) (left from : ℕ) → from + left ≡ length rolls → First slot rolls from (firstFrom slot rolls from)
-first slot rolls zero from e = subst (First slot rolls from) (sym (first-end slot rolls from (omega arith)))
-    (omega arith, omega arith, λ l a b. absurd (omega arith), λ h. absurd (omega arith))
-first slot rolls (suc left) from e = elim (ℕ-discrete (getD rolls from 0) slot) [
-  | yes r ↦ subst (First slot rolls from) (sym (first-here slot rolls from (omega arith) r))
-      (omega arith, omega arith, λ l a b. absurd (omega arith), λ h. r)
-  | no n ↦ subst (First slot rolls from) (sym (first-past slot rolls from (omega arith) n)) (go n (first slot rolls left (from + 1) (omega arith)))
-]
-  where
-    go : getD rolls from 0 ≢ slot → {i : ℕ} → First slot rolls (from + 1) i → First slot rolls from i
-    go n (a, b, none, at) = (omega arith, b, λ l g h. elim (ℕ-discrete from l) [ yes f ↦ rw (← f) n | no d ↦ none l (omega arith) h ], at)
+first : (slot : ℕ) (rolls : List ℕ) (from : ℕ) → from ≤ length rolls → First slot rolls from (firstFrom slot rolls from)
+first slot rolls from h =
+    let (l, none, at) = place-first slot (drop from rolls) in
+    let n = length-drop from rolls in (
+      omega arith,
+      omega arith,
+      λ i a b. let e : from + (i - from) ≡ i = omega arith in
+          rw (ap (λ (m : ℕ). getD rolls m 0) (sym e) ∙ sym (getD-drop from rolls (i - from) 0)) (none (i - from) (omega arith)),
+      λ b. sym (getD-drop from rolls (placeOf slot (drop from rolls)) 0) ∙ at (omega arith),
+    )
 
 module _ (k : ℕ) (rolls : List ℕ) where
   -- ---- what happened to a place that comes to a slot
@@ -66,7 +68,7 @@ module _ (k : ℕ) (rolls : List ℕ) where
       i = firstFrom slot rolls (turn k p)
 
       f : First slot rolls (turn k p) i
-      f = first slot rolls (length rolls - turn k p) (turn k p) (omega arith)
+      f = first slot rolls (turn k p) h
 
       held : HeldUntil k rolls slot p i
       held u a b =

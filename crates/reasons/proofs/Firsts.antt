@@ -3,7 +3,7 @@
 --   first-here    the roll at this step is the slot
 --   first-past    it is not: the first is as of the next step
 --   first-end     no step is left
-use mathlib.Core.Path.{_≡_, sym, ap, _∙_}
+use mathlib.Core.Path.{_≡_, sym, ap}
 use mathlib.Core.Logic.{_≢_}
 use mathlib.Core.List.{List}
 use Prim.Native.Nat.{ℕ, _+_, _-_, _<_, _≤_}

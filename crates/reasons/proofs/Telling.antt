@@ -4,14 +4,13 @@
 --   why-unread               the sheet was not read: refused as the reading was
 --   seen-past, seen-read     it was: refused by 7, or what is told of its sample
 use mathlib.Core.Path.{_≡_, sym, ap, ap₂, _∙_}
-use mathlib.Core.List.{List, [], _∷_}
+use mathlib.Core.List.{List}
 use Prim.Native.Nat.{ℕ, _<_, _≤_}
-use lib.Dec.{leb}
-use lib.ListN.{take}
+use lib.ListN.{take, drop}
 use borrow.Author.Tests.{le-leb, lt-leb}
 use Rattle.rules.specs.Run.{run, trace, rollsOf}
 use Rattle.rules.specs.Width.{w64}
-use Rattle.answers.specs.Outcome.{Outcome, refused, no, noWord, decide, fromRun}
+use Rattle.answers.specs.Outcome.{Outcome, refused, decide, fromRun}
 use Rattle.answers.specs.Supplied.{supplied}
 use Rattle.answers.specs.declared.supply.Supply.the-variants.{Enough, Short}
 use Rattle.answers.proofs.Deciding.{decide-here, decide-past, decide-append, supplied-enough}
@@ -22,7 +21,7 @@ use Rattle.sheet.specs.Sheet.{numbers, wordsOf}
 use Rattle.sheet.specs.declared.read.Drawn.{Drawn}
 use Rattle.sheet.proofs.Drawing.{Held, words-front}
 use Rattle.reasons.specs.Fate.{fateOf}
-use Rattle.reasons.specs.Why.{why, told, shownWhy, seenWhy}
+use Rattle.reasons.specs.Why.{whyRefusals, why, told, shownWhy, seenWhy}
 use Rattle.reasons.specs.declared.fate.Fate.{Fate}
 use Rattle.reasons.specs.declared.why.Reason.{Reason}
 
@@ -52,12 +51,11 @@ module _ (s : List ℕ) (place : ℕ) where
 
   -- past numbers 1 and 3
   abbrev later : Outcome
-  later = decide (no 7 (leb n place) ∷ noWord (run 64 (samplePlan w64 n k) (wordsOf s) 0) ∷ [])
-      (fromRun 64 (samplePlan w64 n k) (wordsOf s) 0 (λ rolls. rolls))
+  later = decide (drop 2 (whyRefusals w64 s place)) (fromRun 64 (samplePlan w64 n k) (wordsOf s) 0 (λ rolls. rolls))
 
   parted : why w64 s place ≡ decide (unreadable s) later
   unfolding why
-  parted = decide-append (unreadable s) _ _
+  parted = decide-append (unreadable s) (drop 2 (whyRefusals w64 s place)) _
 
   pub why-unread : (m batch : ℕ) → ((o : Outcome) → decide (unreadable s) o ≡ refused m batch) → why w64 s place ≡ refused m batch
   why-unread m batch h = parted ∙ h later

@@ -1,6 +1,7 @@
 -- Orders of different records and series of rolls: each series in range gives an order, and each order comes from one series, the one
 -- that is looked up. The batches play no part: a shuffle is one flat series with the bounds n, n - 1, .., 2. Assumes nothing.
 --
+--   place-first                                      the first place of a record, or the length
 --   place-of                                         the place of a record that stands at one place
 --   range-cons                                       one roll in range of a shuffle's bounds
 --   length-shuffle                                   a shuffle keeps the number of records
@@ -12,7 +13,7 @@
 --   one-series                                       for each order the rolls looked up, and no others in range, give it
 --   shuffle-append                                   one series of rolls, and then another
 use mathlib.Core.Path.{_≡_, refl, sym, ap, ap₂, _∙_, subst}
-use mathlib.Core.Logic.{_↔_}
+use mathlib.Core.Logic.{_↔_, _≢_}
 use mathlib.Core.Bool.{Bool, true, false}
 use mathlib.Core.List.{List, [], _∷_, _++_}
 use Prim.Native.Nat.{ℕ, zero, suc, _-_, _<_, _≤_}
@@ -28,23 +29,31 @@ use Rattle.rules.specs.Rolls.{inRange}
 use Rattle.rules.proofs.Range.{in-range-cons}
 use Rattle.rules.specs.Shuffle.{exchange, shuffleWith, shuffleBounds}
 use Rattle.rules.specs.Order.{placeOf, rollsInto, Distinct, Reorders, Only}
+use Rattle.rules.specs.Pinned.{FirstPlace}
 use Rattle.rules.proofs.Rows.{no-bounds, bounds-cons}
 use Rattle.rules.proofs.Counting.{Among, counted, count-among, count-exchange, distinct-once, once-distinct, length-reorders}
 use Rattle.rules.proofs.Exchanging.{exchange-distinct, exchange-last, exchange-other, length-exchange, among-after}
 
 -- ---- the place of a record
 
-place-at : (x : ℕ) (xs : List ℕ) → Among x xs → (placeOf x xs < length xs) × (getD xs (placeOf x xs) 0 ≡ x)
+pub place-first : (x : ℕ) (xs : List ℕ) → FirstPlace x xs (placeOf x xs)
 unfolding placeOf
-place-at x [] a = absurd (not-suc-le-zero (a .1))
-place-at x (y ∷ ys) a = go (eqb x y) refl (place-at x ys) (a .0) (a .1) (a .2)
+place-first x [] = (omega arith, λ i h. absurd (not-suc-le-zero h), λ h. absurd (not-suc-le-zero h))
+place-first x (y ∷ ys) = go (eqb x y) refl (place-first x ys)
   where
-    go : (b : Bool) → eqb x y ≡ b → (Among x ys → (placeOf x ys < length ys) × (getD ys (placeOf x ys) 0 ≡ x))
-        → (p : ℕ) → p < length (y ∷ ys) → getD (y ∷ ys) p 0 ≡ x
-        → (placeOf x (y ∷ ys) < length (y ∷ ys)) × (getD (y ∷ ys) (placeOf x (y ∷ ys)) 0 ≡ x)
-    go true t ih p h e = rw (t, placeOf) (omega arith, sym (eqb-true x y t))
-    go false t ih zero h e = absurd (eqb-false x y t (sym e))
-    go false t ih (suc p) h e = let r = ih (p, le-of-suc-le-suc h, e) in rw (t, placeOf, add-one) (omega arith, r .1)
+    later : {p : ℕ} → y ≢ x → ((i : ℕ) → i < p → getD ys i 0 ≢ x) → (i : ℕ) → i < suc p → getD (y ∷ ys) i 0 ≢ x
+    later n f zero h = n
+    later n f (suc i) h = f i (le-of-suc-le-suc h)
+
+    go : (b : Bool) → eqb x y ≡ b → FirstPlace x ys (placeOf x ys) → FirstPlace x (y ∷ ys) (placeOf x (y ∷ ys))
+    go true t ih = rw (t, placeOf) (omega arith, λ i h. absurd (not-suc-le-zero h), λ h. sym (eqb-true x y t))
+    go false t (l, none, at) =
+        rw (t, placeOf, add-one) (omega arith, later (λ e. eqb-false x y t (sym e)) none, λ h. at (le-of-suc-le-suc h))
+
+place-at : (x : ℕ) (xs : List ℕ) → Among x xs → (placeOf x xs < length xs) × (getD xs (placeOf x xs) 0 ≡ x)
+place-at x xs (p, h, e) =
+    let (l, none, at) = place-first x xs in
+    elim (decLt (placeOf x xs) (length xs)) [ yes k ↦ (k, at k) | no n ↦ absurd (none p (omega arith) e) ]
 
 pub place-of : (xs : List ℕ) (p : ℕ) → Distinct xs → p < length xs → placeOf (getD xs p 0) xs ≡ p
 place-of xs p d h =

@@ -13,7 +13,7 @@ use Rattle.rules.specs.Reservoir.{countup}
 use Rattle.rules.specs.Order.{count, isOrder, AllBelow, Distinct, Reorders}
 use Rattle.rules.specs.Pinned.{OnePlace, OrderPinned}
 use Rattle.rules.proofs.Rows.{length-countup, getD-countup}
-use Rattle.rules.proofs.Orders.{Reordered, reordered}
+use Rattle.rules.proofs.Orders.{place-first, Reordered, reordered}
 use Rattle.rules.proofs.Counting.{counted, total, total-below}
 use Rattle.rules.proofs.Each.{order-iff, order-among, order-reorders, countup-distinct, rolls-behind}
 
@@ -60,5 +60,6 @@ pub order-pinned : OrderPinned
 order-pinned = record {
   each = λ ys. (one-place ys, λ each. order-iff ys .1 (below ys each, distinct ys each));
   row = λ ys. (order-reorders ys, of-row ys);
+  place = place-first;
   behind = rolls-behind;
 }

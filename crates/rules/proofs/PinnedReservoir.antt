@@ -7,10 +7,10 @@ use mathlib.Core.Logic.{_≢_, _⊎_, inl, inr}
 use mathlib.Core.List.{List, [], _∷_}
 use Prim.Native.Nat.{ℕ, zero, suc, suc-le-suc, zero-le, _+_, _<_, _≤_}
 use native.Mathlib.Nat.{not-suc-le-zero, le-of-suc-le-suc}
-use native.Mathlib.Decide.{ℕ-discrete, decLt}
+use native.Mathlib.Decide.{ℕ-discrete}
 use native.Mathlib.Omega.{arith}
 use lib.ListN.{length, take, drop, set, getD, length-set, length-drop}
-use lib.Seq.{set-out, getD-set-same, getD-set-other, getD-take, getD-drop, length-take-le}
+use lib.Seq.{getD-set-same, getD-set-other, getD-take, getD-drop, length-take-le}
 use Rattle.rules.specs.Reservoir.{reservoir}
 use Rattle.rules.specs.Pinned.{LastAt, Nowhere, ReservoirPinned}
 use Rattle.rules.proofs.Reservoir.{length-sample, reservoir-cons}

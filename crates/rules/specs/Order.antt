@@ -3,7 +3,7 @@
 --   count x ys           how often x stands in ys
 --   eachOnce n ys        whether each of 0 .. n - 1 stands exactly once in ys
 --   isOrder ys           whether ys, of length n, holds each of 0 .. n - 1 once
---   placeOf x xs         the place of the first x in xs
+--   placeOf x xs         the place of the first x in xs; the length where there is none
 --   rollsInto m xs ys    the rolls that shuffle xs into ys, an order of the same records, with m records still to place
 --   AllBelow top xs      every element of xs is below top
 --   Distinct xs          no record stands at two places
@@ -29,7 +29,6 @@ eachOnce (suc i) ys = eqb (count i ys) 1 && eachOnce i ys
 abbrev pub isOrder : List ℕ → Bool
 isOrder ys = eachOnce (length ys) ys
 
--- Never met: x does not stand in xs. The value there, the length, is arbitrary.
 unfoldable pub placeOf : ℕ → List ℕ → ℕ
 placeOf x [] = 0
 placeOf x (y ∷ ys) = elim (eqb x y) [ true ↦ 0 | false ↦ placeOf x ys + 1 ]

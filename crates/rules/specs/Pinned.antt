@@ -18,7 +18,9 @@
 --   Nowhere js j                 no roll is j
 --   ReservoirPinned k xs js slots    slot j holds the last record whose roll was j, else record j
 --   OnePlace x ys                x stands at one place of ys, and at no other
---   OrderPinned                  an order has each of 0 .. n - 1 at one place, is one of the records 0, 1, .., n - 1, and has rolls behind it
+--   FirstPlace x xs p            place p is the first that holds x, or the length of xs where none does
+--   OrderPinned                  an order has each of 0 .. n - 1 at one place, is one of the records 0, 1, .., n - 1, and has rolls behind it; the
+--                                place of a record is the first that holds it
 --   Pinned                       the statement: all of these
 use mathlib.Core.Path.{_≡_}
 use mathlib.Core.Logic.{_↔_, _≢_, _⊎_}
@@ -33,7 +35,7 @@ use Rattle.rules.specs.Cut.{cut}
 use Rattle.rules.specs.Shuffle.{shuffleWith, countdown, shufflePlan}
 use Rattle.rules.specs.Reservoir.{countup, reservoir}
 use Rattle.rules.specs.Limits.{maxBatch, maxBounds, maxRecords}
-use Rattle.rules.specs.Order.{isOrder, rollsInto, Reorders, Only}
+use Rattle.rules.specs.Order.{isOrder, placeOf, rollsInto, Reorders, Only}
 
 -- ---- from a word to rolls
 
@@ -139,10 +141,14 @@ pub record ReservoirPinned (k : ℕ) (xs js slots : List ℕ) : Type 0 where
 abbrev pub OnePlace : ℕ → List ℕ → Type 0
 OnePlace x ys = (p : ℕ) × (p < length ys) × (getD ys p 0 ≡ x) × ((q : ℕ) → q < length ys → getD ys q 0 ≡ x → q ≡ p)
 
+abbrev pub FirstPlace : ℕ → List ℕ → ℕ → Type 0
+FirstPlace x xs p = (p ≤ length xs) × ((i : ℕ) → i < p → getD xs i 0 ≢ x) × (p < length xs → getD xs p 0 ≡ x)
+
 -- "for a list that holds each of 0..n - 1 once, the rolls that shuffle 0, 1, .., n - 1 into it"
 pub record OrderPinned : Type 0 where
   pub each : (ys : List ℕ) → T (isOrder ys) ↔ ((x : ℕ) → x < length ys → OnePlace x ys)
   pub row : (ys : List ℕ) → T (isOrder ys) ↔ Reorders (countup (length ys) 0) ys
+  pub place : (x : ℕ) (xs : List ℕ) → FirstPlace x xs (placeOf x xs)
   pub behind : (ys : List ℕ) → T (isOrder ys) → Only (length ys) (countup (length ys) 0) ys (rollsInto (length ys) (countup (length ys) 0) ys)
 
 -- ---- the statement

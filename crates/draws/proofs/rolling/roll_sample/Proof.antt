@@ -5,14 +5,14 @@ use mathlib.Core.Bool.{false}
 use mathlib.Core.List.{List, _++_}
 use Prim.Native.Nat.{ℕ, _+_, _-_, _^_, _≤_}
 use native.Mathlib.Omega.{arith}
-use lib.ListN.{length, take, drop, replicate, length-replicate}
+use lib.ListN.{length, take, drop, replicate}
 use Rattle.rules.specs.Cut.{cut}
 use Rattle.rules.specs.Reservoir.{countup}
 use Rattle.rules.specs.Rolls.{hasZero}
 use Rattle.rules.specs.Run.{run}
 use Rattle.answers.proofs.Deciding.{supplied-enough}
 use Rattle.draws.proofs.Rolled.{supplied-same, rolled-kept, rolled-left}
-use Rattle.draws.proofs.Sampling.{prefix-count, array-kept, prefix-back, bounds-no-zero}
+use Rattle.draws.proofs.Sampling.{lent-count, back-fits, back-front, back-count, bounds-no-zero}
 use borrow.Author.Needs.{needs}
 use Rattle.draws.proofs.rolling.roll_sample.Statement.{statement}
 use Rattle.draws.proofs.rolling.roll_sample.Tie as tie
@@ -21,8 +21,8 @@ use Rattle.draws.proofs.rolling.roll_sample.Tie as tie
 abbrev bound-total : tie.Start → ℕ
 bound-total s = s .args .n - s .args .k
 
-fits : (s : tie.Start) → bound-total s ≤ length (replicate {A = ℕ} 16384 0)
-fits s = rw (length-replicate {A = ℕ} 16384 0) (omega (arith, s .pre .1))
+few : (s : tie.Start) → bound-total s ≤ 16384
+few s = omega (arith, s .pre .1)
 
 abbrev begin : tie.After-count-up → tie.Start
 begin w = w .before .before .before .before
@@ -35,16 +35,16 @@ abbrev front : tie.After-count-up → List ℕ
 front w = take (bound-total (begin w)) (array w)
 
 laid : (w : tie.After-count-up) → front w ≡ w .count-up .last .0
-laid w = prefix-back (replicate 16384 0) (w .count-up .last .0) (bound-total (begin w)) (fits (begin w)) (w .count-up .kept .0)
+laid w = back-front 16384 (bound-total (begin w)) (few (begin w)) (w .count-up .last .0) (w .count-up .kept .0)
 
 bounds : (w : tie.After-count-up) → front w ≡ countup (bound-total (begin w)) (begin w .args .k + 1)
-bounds w = laid w ∙ w .count-up .ensures ∙ ap (λ (m : ℕ). countup m (begin w .args .k + 1)) (sym (prefix-count (replicate 16384 0) (bound-total (begin w)) (fits (begin w))))
+bounds w = laid w ∙ w .count-up .ensures ∙ ap (λ (m : ℕ). countup m (begin w .args .k + 1)) (sym (lent-count 16384 (bound-total (begin w)) (few (begin w))))
 
 array-fits : (w : tie.After-count-up) → bound-total (begin w) ≤ length (array w)
-array-fits w = rw (array-kept (replicate 16384 0) (w .count-up .last .0) (bound-total (begin w)) (fits (begin w)) (w .count-up .kept .0)) (fits (begin w))
+array-fits w = back-fits 16384 (bound-total (begin w)) (few (begin w)) (w .count-up .last .0) (w .count-up .kept .0)
 
 laid-count : (w : tie.After-count-up) → bound-total (begin w) ≡ length (front w)
-laid-count w = rw (laid w) (prefix-count (replicate 16384 0) (bound-total (begin w)) (fits (begin w)) ∙ sym (w .count-up .kept .0))
+laid-count w = back-count 16384 (bound-total (begin w)) (few (begin w)) (w .count-up .last .0) (w .count-up .kept .0)
 
 no-zero : (w : tie.After-count-up) → hasZero (front w) ≡ false
 no-zero w = bounds-no-zero _ (begin w .args .n) (begin w .args .k) (bounds w)
@@ -56,14 +56,14 @@ array-borrow-prefix-bounds : tie.Need-array-borrow-prefix-bounds
 array-borrow-prefix-bounds c = search needs
 
 slice-aggregate-count-up : tie.Need-slice-aggregate-count-up
-slice-aggregate-count-up c = let start = c .before .before .before in prefix-count (replicate 16384 0) (bound-total start) (fits start)
+slice-aggregate-count-up c = let start = c .before .before .before in lent-count 16384 (bound-total start) (few start)
 
 add-count-up : tie.Need-add-count-up
 add-count-up c = search needs
 
 count-up-requires : tie.Need-count-up-requires
 count-up-requires c κs = let start = c .before .before .before in
-    omega (arith, prefix-count (replicate 16384 0) (bound-total start) (fits start), fits start, start .pre .1, length-replicate {A = ℕ} 16384 0)
+    omega (arith, lent-count 16384 (bound-total start) (few start), start .pre .1)
 
 array-share-prefix-bounds : tie.Need-array-share-prefix-bounds
 array-share-prefix-bounds c = array-fits (c .before)

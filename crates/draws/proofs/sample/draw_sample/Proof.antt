@@ -4,7 +4,7 @@ use mathlib.Core.Path.{_≡_, _∙_, sym, ap}
 use mathlib.Core.List.{List, _++_}
 use Prim.Native.Nat.{ℕ, _+_, _-_, _≤_}
 use native.Mathlib.Omega.{arith}
-use lib.ListN.{length, take, drop, replicate, length-replicate}
+use lib.ListN.{length, take, drop, replicate}
 use borrow.Author.Tests.{le-ltb}
 use Rattle.rules.specs.Run.{run, trace, rollsOf}
 use Rattle.rules.specs.Reservoir.{reservoir}
@@ -14,7 +14,7 @@ use Rattle.answers.proofs.Deciding.{in-count, refused-seen, done-seen}
 use Rattle.draws.specs.Sample.{samplePlan}
 use Rattle.draws.proofs.OneSample.{sample-short, sample-done}
 use Rattle.draws.proofs.Rolled.{rolled-whole}
-use Rattle.draws.proofs.Sampling.{prefix-count, array-kept, prefix-back, slots-drawn}
+use Rattle.draws.proofs.Sampling.{lent-count, back-fits, back-front, back-count, slots-drawn}
 use borrow.Author.Needs.{needs}
 use Rattle.draws.proofs.sample.draw_sample.Statement.{statement}
 use Rattle.draws.proofs.sample.draw_sample.Tie as tie
@@ -23,8 +23,8 @@ use Rattle.draws.proofs.sample.draw_sample.Tie as tie
 abbrev roll-total : tie.Start → ℕ
 roll-total s = length (s .args .records .now) - s .args .k
 
-fits : (s : tie.Start) → roll-total s ≤ length (replicate {A = ℕ} 16384 0)
-fits s = rw (length-replicate {A = ℕ} 16384 0) (omega (arith, s .pre .1))
+few : (s : tie.Start) → roll-total s ≤ 16384
+few s = omega (arith, s .pre .1)
 
 abbrev begin : tie.After-roll-sample → tie.Start
 begin w = w .before .before .before .before .before
@@ -37,10 +37,10 @@ abbrev front : tie.After-roll-sample → List ℕ
 front w = take (roll-total (begin w)) (array w)
 
 written : (w : tie.After-roll-sample) → front w ≡ w .roll-sample .last .1 .1 .1 .1 .0
-written w = prefix-back (replicate 16384 0) (w .roll-sample .last .1 .1 .1 .1 .0) (roll-total (begin w)) (fits (begin w)) (w .roll-sample .kept .1 .1 .1 .1 .0)
+written w = back-front 16384 (roll-total (begin w)) (few (begin w)) (w .roll-sample .last .1 .1 .1 .1 .0) (w .roll-sample .kept .1 .1 .1 .1 .0)
 
 front-count : (w : tie.After-roll-sample) → roll-total (begin w) ≡ length (front w)
-front-count w = rw (written w) (prefix-count (replicate 16384 0) (roll-total (begin w)) (fits (begin w)) ∙ sym (w .roll-sample .kept .1 .1 .1 .1 .0))
+front-count w = back-count 16384 (roll-total (begin w)) (few (begin w)) (w .roll-sample .last .1 .1 .1 .1 .0) (w .roll-sample .kept .1 .1 .1 .1 .0)
 
 sub-count : tie.Need-sub-count
 sub-count c = search needs
@@ -49,11 +49,11 @@ array-borrow-prefix-rolls : tie.Need-array-borrow-prefix-rolls
 array-borrow-prefix-rolls c = search needs
 
 slice-aggregate-roll-sample : tie.Need-slice-aggregate-roll-sample
-slice-aggregate-roll-sample c = let start = c .before .before .before .before in prefix-count (replicate 16384 0) (roll-total start) (fits start)
+slice-aggregate-roll-sample c = let start = c .before .before .before .before in lent-count 16384 (roll-total start) (few start)
 
 roll-sample-requires : tie.Need-roll-sample-requires
 roll-sample-requires c κs = let start = c .before .before .before .before in
-    (start .pre .0, start .pre .1, start .pre .3, omega (arith, prefix-count (replicate 16384 0) (roll-total start) (fits start)))
+    (start .pre .0, start .pre .1, start .pre .3, omega (arith, lent-count 16384 (roll-total start) (few start)))
 
 enum-known-next : tie.Need-enum-known-next
 enum-known-next c = search needs
@@ -63,7 +63,7 @@ take-first-requires c κs = search needs
 
 array-share-prefix-rolls : tie.Need-array-share-prefix-rolls
 array-share-prefix-rolls c = let w = c .before .before .before .before .before .before .before .before in
-    rw (array-kept (replicate 16384 0) (w .roll-sample .last .1 .1 .1 .1 .0) (roll-total (begin w)) (fits (begin w)) (w .roll-sample .kept .1 .1 .1 .1 .0)) (fits (begin w))
+    back-fits 16384 (roll-total (begin w)) (few (begin w)) (w .roll-sample .last .1 .1 .1 .1 .0) (w .roll-sample .kept .1 .1 .1 .1 .0)
 
 slice-aggregate-take-later : tie.Need-slice-aggregate-take-later
 slice-aggregate-take-later c = front-count (c .before .before .before .before .before .before .before .before .before)
@@ -96,7 +96,7 @@ returns c = let after-take-first = c .before .before .before .before .before .be
     let r = run 64 (samplePlan w64 n (a .k)) (a .words .now) (a .start) in
     let js = rollsOf 64 (samplePlan w64 n (a .k)) (trace r) in
     let e = sym (w .roll-sample .ensures .0) ∙ told .next .given .1 in
-    let rolls = written w ∙ w .roll-sample .ensures .1 ∙ rolled-whole (a .words .now) (a .start) n (a .k) _ _ e _ (prefix-count (replicate 16384 0) (roll-total start) (fits start)) in
+    let rolls = written w ∙ w .roll-sample .ensures .1 ∙ rolled-whole (a .words .now) (a .start) n (a .k) _ _ e _ (lent-count 16384 (roll-total start) (few start)) in
     done-seen _ _ (a .start) r _ _ (a .slots .now) _ _
     (sample-done w64 (a .words .now) (a .start) (a .records .now) (a .k) (length (a .slots .now))
     (in-count 0 16384 n (search needs) (start .pre .1)) (in-count 1 n (a .k) (start .pre .2) (start .pre .3))

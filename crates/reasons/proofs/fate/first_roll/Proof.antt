@@ -2,6 +2,7 @@
 -- measure is what is left of the rolls. Assumes nothing.
 use mathlib.Core.Path.{_≡_, _∙_, sym}
 use Prim.Native.Nat.{_-_, _≤_, _<_}
+use native.Mathlib.Omega.{arith}
 use lib.ListN.{length}
 use borrow.Author.Needs.{needs}
 use Rattle.reasons.specs.Fate.{firstFrom}
@@ -34,7 +35,7 @@ loop-again : tie.Need-loop-again Inv-loop μ-loop
 loop-again c = let turn = c .before .before .before in
     let args = turn .before .args in
     let here : turn .loop .step < length (args .rolls .now) = search needs in
-    (search needs, sym (first-past (args .slot) (args .rolls .now) (turn .loop .step) here (c .if1 .left)) ∙ turn .loop .inv .1)
+    (search needs, sym (first-past (args .slot) (args .rolls .now) (turn .loop .step) here (λ e. omega (arith, e, c .if1 .left))) ∙ turn .loop .inv .1)
 
 returns : tie.Need-returns Inv-loop μ-loop
 returns c = let turn = c .before in

@@ -4,9 +4,9 @@ use mathlib.Core.Path.{_≡_, _∙_, sym}
 use mathlib.Core.List.{List, _++_}
 use Prim.Native.Nat.{ℕ, _-_, _≤_, zero-le}
 use native.Mathlib.Omega.{arith}
-use lib.ListN.{length, take, drop, replicate, length-replicate}
+use lib.ListN.{length, take, drop, replicate}
 use Rattle.draws.proofs.Rolled.{rolled-whole}
-use Rattle.draws.proofs.Sampling.{prefix-count, array-kept, prefix-back}
+use Rattle.draws.proofs.Sampling.{lent-count, back-fits, back-front, back-count}
 use Rattle.reasons.proofs.Telling.{told-done, told-short}
 use borrow.Author.Needs.{needs}
 use Rattle.reasons.proofs.why.explain.Statement.{statement}
@@ -16,8 +16,8 @@ use Rattle.reasons.proofs.why.explain.Tie as tie
 abbrev roll-total : tie.Start → ℕ
 roll-total s = s .args .n - s .args .k
 
-fits : (s : tie.Start) → roll-total s ≤ length (replicate {A = ℕ} 16384 0)
-fits s = rw (length-replicate {A = ℕ} 16384 0) (omega (arith, s .pre .0))
+few : (s : tie.Start) → roll-total s ≤ 16384
+few s = omega (arith, s .pre .0)
 
 abbrev begin : tie.After-roll-sample → tie.Start
 begin w = w .before .before .before
@@ -30,10 +30,10 @@ abbrev front : tie.After-roll-sample → List ℕ
 front w = take (roll-total (begin w)) (array w)
 
 written : (w : tie.After-roll-sample) → front w ≡ w .roll-sample .last .1 .1 .1 .1 .0
-written w = prefix-back (replicate 16384 0) (w .roll-sample .last .1 .1 .1 .1 .0) (roll-total (begin w)) (fits (begin w)) (w .roll-sample .kept .1 .1 .1 .1 .0)
+written w = back-front 16384 (roll-total (begin w)) (few (begin w)) (w .roll-sample .last .1 .1 .1 .1 .0) (w .roll-sample .kept .1 .1 .1 .1 .0)
 
 front-count : (w : tie.After-roll-sample) → roll-total (begin w) ≡ length (front w)
-front-count w = rw (written w) (prefix-count (replicate 16384 0) (roll-total (begin w)) (fits (begin w)) ∙ sym (w .roll-sample .kept .1 .1 .1 .1 .0))
+front-count w = back-count 16384 (roll-total (begin w)) (few (begin w)) (w .roll-sample .last .1 .1 .1 .1 .0) (w .roll-sample .kept .1 .1 .1 .1 .0)
 
 sub-count : tie.Need-sub-count
 sub-count c = search needs
@@ -42,18 +42,18 @@ array-borrow-prefix-rolls : tie.Need-array-borrow-prefix-rolls
 array-borrow-prefix-rolls c = search needs
 
 slice-aggregate-roll-sample : tie.Need-slice-aggregate-roll-sample
-slice-aggregate-roll-sample c = let start = c .before .before in prefix-count (replicate 16384 0) (roll-total start) (fits start)
+slice-aggregate-roll-sample c = let start = c .before .before in lent-count 16384 (roll-total start) (few start)
 
 roll-sample-requires : tie.Need-roll-sample-requires
 roll-sample-requires c κs = let start = c .before .before in
-    (zero-le, start .pre .0, start .pre .1, omega (arith, prefix-count (replicate 16384 0) (roll-total start) (fits start)))
+    (zero-le, start .pre .0, start .pre .1, omega (arith, lent-count 16384 (roll-total start) (few start)))
 
 enum-known-next : tie.Need-enum-known-next
 enum-known-next c = search needs
 
 array-share-prefix-rolls : tie.Need-array-share-prefix-rolls
 array-share-prefix-rolls c = let w = c .before .before .before .before in
-    rw (array-kept (replicate 16384 0) (w .roll-sample .last .1 .1 .1 .1 .0) (roll-total (begin w)) (fits (begin w)) (w .roll-sample .kept .1 .1 .1 .1 .0)) (fits (begin w))
+    back-fits 16384 (roll-total (begin w)) (few (begin w)) (w .roll-sample .last .1 .1 .1 .1 .0) (w .roll-sample .kept .1 .1 .1 .1 .0)
 
 slice-aggregate-fate-of : tie.Need-slice-aggregate-fate-of
 slice-aggregate-fate-of c = front-count (c .before .before .before .before .before)
@@ -79,7 +79,7 @@ returns c = let told = c .before .before .before .before in
     let a = start .args in
     let e = sym (w .roll-sample .ensures .0) ∙ told .next .given .1 in
     told-done (a .words .now) (a .n) (a .k) (a .place) _ _ _ e (front w)
-    (written w ∙ w .roll-sample .ensures .1 ∙ rolled-whole (a .words .now) 0 (a .n) (a .k) _ _ e _ (prefix-count (replicate 16384 0) (roll-total start) (fits start)))
+    (written w ∙ w .roll-sample .ensures .1 ∙ rolled-whole (a .words .now) 0 (a .n) (a .k) _ _ e _ (lent-count 16384 (roll-total start) (few start)))
     _ (c .before .fate-of .ensures) (c .tell .ensures)
 
 returns-2 : tie.Need-returns-2

@@ -1,10 +1,9 @@
 -- `reasons::why::why` meets its contract: refused as the reading is, then by 7, and else what is told of the sample of what was read.
 -- Assumes nothing.
-use mathlib.Core.Path.{_≡_, _∙_, sym, ap}
+use mathlib.Core.Path.{_∙_, sym, ap}
 use Prim.Native.Nat.{ℕ, _≤_}
 use native.Mathlib.Omega.{arith}
 use lib.ListN.{length, replicate, length-replicate}
-use borrow.Author.Tests.{le-leb, lt-leb}
 use Rattle.sheet.specs.Sheet.{numbers}
 use Rattle.sheet.proofs.Drawing.{Held, held, not-held, held-size, words-fit, words-count}
 use Rattle.reasons.specs.Why.{shownWhy}

@@ -1,6 +1,5 @@
 -- `sheet::run::run_sheet` meets its contract. It turns on what was read: the arrays have room for the most of a sheet, so the reading is
 -- refused where the draw is, or their fronts hold the words and the records that the sample is given. Assumes nothing.
-use mathlib.Core.Path.{_≡_}
 use Prim.Native.Nat.{ℕ, _≤_}
 use native.Mathlib.Omega.{arith}
 use lib.ListN.{length, replicate, length-replicate}
