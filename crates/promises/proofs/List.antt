@@ -10,7 +10,7 @@ use lib.Dec.{lit<}
 use lib.ListN.{length, drop, getD}
 use Rattle.rules.specs.Cut.{cut, cutFrom}
 use Rattle.rules.specs.Rolls.{rolls, rest, product, hasZero}
-use Rattle.rules.specs.Run.{find, run, runFrom, rollsOf, next, rejected}
+use Rattle.rules.specs.Run.{Run, find, run, runFrom, rollsOf, next, rejected}
 use Rattle.rules.specs.Width.{Width, w64}
 use Rattle.rules.proofs.CutPlans.{cut-plan}
 use Rattle.rules.proofs.Products.{zero-nowhere}
@@ -20,10 +20,11 @@ use Rattle.answers.specs.declared.answer.Answer.{Answer}
 use Rattle.lists.specs.List.{listRefusals, rollList, seenList}
 use Rattle.promises.specs.Demand1.{Callable, firstOf}
 use Rattle.promises.specs.Demand2.{Allowed, ByMethod}
-use Rattle.promises.specs.List.{Op, Numbers, Demand1, Demand2, Bounds, Settled, StandIns, Promise}
+use Rattle.promises.specs.List.{Op, Numbers, Demand1, Demand2, Bounds, Settled, StandIns, Promise, BatchNamed}
 use Rattle.promises.proofs.Calls.{below-nil, one-number, word-0, word-half, words-01, words-11}
 use Rattle.promises.proofs.Method.{by-method, rolled-count, same-seen}
-use Rattle.promises.proofs.Refusing.{beside-refused, allowed-cons, allowed-done, named-no, named-words, numbered-no, numbered-words, settle, ten-last}
+use Rattle.promises.proofs.Which.{differ}
+use Rattle.promises.proofs.Refusing.{beside-refused, allowed-cons, allowed-done, named-no, named-words, numbered-no, numbered-words, settle, ten-last, names-batch, ten-no, ten-words}
 
 numbers : (W : Width) → Numbers W
 numbers W words start bs room = ten-last (run (W .bits) (cut (W .limit) bs) words start) (2 ∷ 4 ∷ 6 ∷ 9 ∷ [])
@@ -36,6 +37,13 @@ demand1 : (W : Width) → Demand1 W (seenList W)
 unfolding rollList
 demand1 W words start bs lent w b = beside-refused start lent (listRefusals W words start bs (length lent))
     (named-no 2 _ _ (named-no 4 _ _ (named-no 6 _ _ (named-words (W .bits) (cut (W .limit) bs) words start)))) _ _ (seenList W words start bs lent) refl
+
+batch-named : (W : Width) → BatchNamed W
+batch-named W words start bs lent w b =
+    let r : Run = run (W .bits) (cut (W .limit) bs) words start in
+    names-batch (listRefusals W words start bs (length lent)) (λ o. (shown start o, lent)) _ (seenList W words start bs lent) (λ (x : Answer × List ℕ). x .0 .batch)
+    (λ n b. refl) (demand1 W words start bs lent w b) r
+    (ten-no r 2 _ _ (differ tt) (ten-no r 4 _ _ (differ tt) (ten-no r 6 _ _ (differ tt) (ten-words (W .bits) (cut (W .limit) bs) words start))))
 
 module _ (W : Width) (g : GoodWidth W) where
   demand2 : Demand2 W (seenList W)
@@ -104,6 +112,7 @@ pub promise : Promise w64
 promise = record {
   numbers = numbers w64;
   demand1 = demand1 w64;
+  batch = batch-named w64;
   demand2 = demand2 w64 good64;
   bounds = bounds w64 good64;
   settled = settled w64 good64;

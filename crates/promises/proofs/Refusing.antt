@@ -2,6 +2,7 @@
 --
 --   truth                       a test that holds is true
 --   Named, named-nil, named-no, named-word, named-words, named-bounds    no number but 10 names a batch
+--   Ten, ten-no, ten-word, ten-words, names-batch    number 10 names the batch at which the run ended
 --   as-refused                  a refusal is the first one, alone, whatever an operation's answer looks like
 --   beside-refused              and so of an answer beside a lent list
 --   allowed-cons, allowed-done  where no refusal applies: none of the list does, and the outcome is not refused
@@ -66,6 +67,29 @@ named-words L plan words start = named-no 9 _ _ (named-word (run L plan words st
 
 pub named-bounds : (W : Width) (bs : List ℕ) (rs : List Refusal) → Named rs → Named (ofBounds W bs ++ rs)
 named-bounds W bs rs m = named-no 2 _ _ (named-no 4 _ _ (named-no 5 _ _ m))
+
+-- ---- and it names the one at which the run ended
+
+abbrev pub Ten : Run → List Refusal → Type 0
+Ten r rs = firstOf rs .number ≡ 10 → r ≡ short (firstOf rs .batch)
+
+pub ten-no : (r : Run) (n : ℕ) (b : Bool) (rs : List Refusal) → n ≢ 10 → Ten r rs → Ten r (no n b ∷ rs)
+unfolding firstOf
+ten-no r n true rs h t z = absurd (h z)
+ten-no r n false rs h t z = t z
+
+pub ten-word : (r : Run) → Ten r (noWord r ∷ [])
+unfolding firstOf
+ten-word (ran ts) z = clash cc
+ten-word (short k) z = refl
+
+pub ten-words : (L : ℕ) (plan : List (List ℕ)) (words : List ℕ) (start : ℕ) → Ten (run L plan words start) (ofWords L plan words start)
+ten-words L plan words start = ten-no (run L plan words start) 9 _ _ (λ z. omega arith) (ten-word (run L plan words start))
+
+pub names-batch : {A : Type 0} (rs : List Refusal) (saying : Outcome → A) (number : ℕ) (got : A) (batch : A → ℕ) → ((n b : ℕ) → batch (saying (refused n b)) ≡ b)
+    → AsRefused rs saying number got → (r : Run) → Ten r rs → number ≡ 10 → r ≡ short (batch got)
+names-batch rs saying number got batch says a r t z =
+    t (sym (a .lowest) ∙ z) ∙ ap short (sym (ap batch (a .whole (λ y. omega (arith, y, z))) ∙ says (firstOf rs .number) (firstOf rs .batch)))
 
 -- ---- the first refusal is given
 

@@ -15,7 +15,7 @@ use Rattle.rules.specs.Limits.{maxRecords}
 use Rattle.rules.specs.Plan.{PlanOf}
 use Rattle.rules.specs.Reservoir.{countup, reservoir}
 use Rattle.rules.specs.Rolls.{rolls, rest, product}
-use Rattle.rules.specs.Run.{find, run, runFrom, trace, rollsOf, next, rejected}
+use Rattle.rules.specs.Run.{Run, find, run, runFrom, trace, rollsOf, next, rejected}
 use Rattle.rules.specs.Width.{Width, w64}
 use Rattle.rules.proofs.CutPlans.{sample-plan}
 use Rattle.rules.proofs.Facts.{or-right}
@@ -26,11 +26,12 @@ use Rattle.answers.specs.declared.answer.Answer.{Answer}
 use Rattle.draws.specs.Sample.{samplePlan, sampleRefusals, sample, seenSample}
 use Rattle.promises.specs.Demand1.{Callable, firstOf}
 use Rattle.promises.specs.Demand2.{Allowed, ByMethod}
-use Rattle.promises.specs.Sample.{Op, Numbers, Demand1, Demand2, Bounds, Settled, StandIns, CouldComeUp, Promise}
+use Rattle.promises.specs.Sample.{Op, Numbers, Demand1, Demand2, Bounds, Settled, StandIns, CouldComeUp, Promise, BatchNamed}
 use Rattle.promises.proofs.Calls.{below-nil, word-0, word-half, words-01, words-11}
 use Rattle.promises.proofs.CouldComeUp.{comes-up}
 use Rattle.promises.proofs.Method.{by-method, same-seen}
-use Rattle.promises.proofs.Refusing.{beside-refused, allowed-cons, allowed-done, named-no, named-words, numbered-no, numbered-words, settle, ten-last}
+use Rattle.promises.proofs.Which.{differ}
+use Rattle.promises.proofs.Refusing.{beside-refused, allowed-cons, allowed-done, named-no, named-words, numbered-no, numbered-words, settle, ten-last, names-batch, ten-no, ten-words}
 use Rattle.promises.proofs.Shuffle.{few-records}
 
 numbers : (W : Width) → Numbers W
@@ -47,6 +48,13 @@ unfolding sample
 demand1 W words start xs k lent w =
     beside-refused start lent (sampleRefusals W words start (length xs) k (length lent))
     (named-no 2 _ _ (named-no 3 _ _ (named-no 6 _ _ (named-words (W .bits) (samplePlan W (length xs) k) words start)))) _ _ (seenSample W words start xs k lent) refl
+
+batch-named : (W : Width) → BatchNamed W
+batch-named W words start xs k lent w =
+    let r : Run = run (W .bits) (samplePlan W (length xs) k) words start in
+    names-batch (sampleRefusals W words start (length xs) k (length lent)) (λ o. (shown start o, lent)) _ (seenSample W words start xs k lent)
+    (λ (x : Answer × List ℕ). x .0 .batch) (λ n b. refl) (demand1 W words start xs k lent w) r
+    (ten-no r 2 _ _ (differ tt) (ten-no r 3 _ _ (differ tt) (ten-no r 6 _ _ (differ tt) (ten-words (W .bits) (samplePlan W (length xs) k) words start))))
 
 module _ (W : Width) (g : GoodWidth W) where
   demand2 : Demand2 W (seenSample W)
@@ -121,6 +129,7 @@ pub promise : Promise w64
 promise = record {
   numbers = numbers w64;
   demand1 = demand1 w64;
+  batch = batch-named w64;
   demand2 = demand2 w64 good64;
   bounds = bounds w64 good64;
   settled = settled w64 good64;

@@ -38,10 +38,10 @@ use Rattle.sheet.proofs.Running.{sheet-flat}
 use Rattle.sheet.proofs.Soundness.{sound-known, sound-iff, sheet-records}
 use Rattle.promises.specs.Demand1.{firstOf}
 use Rattle.promises.specs.Demand2.{Allowed, Lemire}
-use Rattle.promises.specs.Sheet.{Bytes, CanMeet, Fits, When, Draws, Demand1, Demand2, Settled, StandIns, Promise}
+use Rattle.promises.specs.Sheet.{Bytes, CanMeet, Fits, When, Draws, Demand1, Demand2, Settled, StandIns, Promise, BatchNamed}
 use Rattle.promises.proofs.Calls.{below-nil, below-cons, allBelow, all-below}
 use Rattle.promises.proofs.Method.{by-method, rolled-count, same-seen}
-use Rattle.promises.proofs.Refusing.{Numbered, as-refused, first-past, allowed-cons, allowed-done, named-no, named-word, numbered-no, numbered-word, settle, ten-last}
+use Rattle.promises.proofs.Refusing.{Numbered, as-refused, first-past, allowed-cons, allowed-done, named-no, named-word, numbered-no, numbered-word, settle, ten-last, names-batch, ten-no, ten-word}
 use Rattle.promises.proofs.Sample.{plan-fits}
 use Rattle.promises.proofs.Which.{differ, neither, which, none-applies, tested-sound, tested-size, tested-room}
 
@@ -79,6 +79,12 @@ demand1 W s lent b =
     (sheetRefusals W s (length lent))
     (named-no 1 _ _ (named-no 3 _ _ (named-no 6 _ _ (named-word (run (W .bits) (samplePlan W (numbers s .records) (numbers s .k)) (wordsOf s) 0)))))
     (seenSheet W s lent) (ap (λ (o : Outcome). (shownDrawn s o, left lent o)) (sheet-flat W s (length lent)))
+
+batch-named : (W : Width) → BatchNamed W
+batch-named W s lent b =
+    let r : Run = run (W .bits) (samplePlan W (numbers s .records) (numbers s .k)) (wordsOf s) 0 in
+    names-batch (sheetRefusals W s (length lent)) (λ o. (shownDrawn s o, lent)) _ (seenSheet W s lent) (λ (x : Drawn × List ℕ). x .0 .batch) (λ n b. refl)
+    (demand1 W s lent b) r (ten-no r 1 _ _ (differ tt) (ten-no r 3 _ _ (differ tt) (ten-no r 6 _ _ (differ tt) (ten-word r))))
 
 -- past the third number nothing is given, or 10
 pub ten-or-none : (third : ℕ) → (0 ≢ third) → (10 ≢ third) → (r : Run)
@@ -192,6 +198,7 @@ promise = record {
   sound = sound-iff;
   fits = fits;
   demand1 = demand1 w64;
+  batch = batch-named w64;
   when = when w64;
   demand2 = demand2;
   settled = settled;

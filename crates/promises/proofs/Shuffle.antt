@@ -15,7 +15,7 @@ use borrow.Author.Tests.{ltb-false}
 use Rattle.rules.specs.Limits.{maxRecords}
 use Rattle.rules.specs.Plan.{PlanOf}
 use Rattle.rules.specs.Rolls.{rolls, rest, product}
-use Rattle.rules.specs.Run.{find, run, runFrom, rollsOf, next, rejected}
+use Rattle.rules.specs.Run.{Run, find, run, runFrom, rollsOf, next, rejected}
 use Rattle.rules.specs.Shuffle.{exchange, shuffleWith, countdown, shuffleBounds, shufflePlanFrom, shufflePlan}
 use Rattle.rules.specs.Width.{Width, w64, size64}
 use Rattle.rules.proofs.Facts.{or-right}
@@ -28,10 +28,11 @@ use Rattle.answers.specs.declared.answer.Answer.{Answer}
 use Rattle.shuffles.specs.Shuffle.{shuffleRefusals, shuffle, seenShuffle}
 use Rattle.promises.specs.Demand1.{Callable, firstOf}
 use Rattle.promises.specs.Demand2.{Allowed, ByMethod}
-use Rattle.promises.specs.Shuffle.{Op, Numbers, Demand1, Demand2, Bounds, Settled, StandIns, Promise}
+use Rattle.promises.specs.Shuffle.{Op, Numbers, Demand1, Demand2, Bounds, Settled, StandIns, Promise, BatchNamed}
 use Rattle.promises.proofs.Calls.{below-nil, word-0, word-half, words-01, words-10, words-11}
 use Rattle.promises.proofs.Method.{by-method, same-seen}
-use Rattle.promises.proofs.Refusing.{beside-refused, allowed-cons, allowed-done, named-no, named-words, numbered-no, numbered-words, settle, ten-last}
+use Rattle.promises.proofs.Which.{differ}
+use Rattle.promises.proofs.Refusing.{beside-refused, allowed-cons, allowed-done, named-no, named-words, numbered-no, numbered-words, settle, ten-last, names-batch, ten-no, ten-words}
 
 pub few-records : (n : ℕ) → outside 0 maxRecords n ≡ false → n ≤ maxRecords
 few-records n e = ltb-false maxRecords n (or-right (ltb n 0) (ltb maxRecords n) e)
@@ -46,6 +47,12 @@ pub demand1 : (W : Width) → Demand1 W (seenShuffle W)
 unfolding shuffle
 demand1 W words start xs w = beside-refused start xs (shuffleRefusals W words start (length xs))
     (named-no 2 _ _ (named-words (W .bits) (shufflePlan (W .size) (length xs)) words start)) _ _ (seenShuffle W words start xs) refl
+
+batch-named : (W : Width) → BatchNamed W
+batch-named W words start xs w =
+    let r : Run = run (W .bits) (shufflePlan (W .size) (length xs)) words start in
+    names-batch (shuffleRefusals W words start (length xs)) (λ o. (shown start o, xs)) _ (seenShuffle W words start xs) (λ (x : Answer × List ℕ). x .0 .batch)
+    (λ n b. refl) (demand1 W words start xs w) r (ten-no r 2 _ _ (differ tt) (ten-words (W .bits) (shufflePlan (W .size) (length xs)) words start))
 
 module _ (W : Width) (g : GoodWidth W) where
   demand2 : Demand2 W (seenShuffle W)
@@ -129,6 +136,7 @@ pub promise : Promise w64
 promise = record {
   numbers = numbers w64;
   demand1 = demand1 w64;
+  batch = batch-named w64;
   demand2 = demand2 w64 good64;
   bounds = shuffle-plan (good64 .sizes);
   settled = settled w64 good64;

@@ -19,6 +19,7 @@
 --   Which first second third A B C Rest no    of three numbers that are looked for in this order, each tells that a sentence fails: A, B, C; where
 --                                      all three hold the number is as the rest says. So it is known of the answer when each number is given,
 --                                      whatever tests a list of refusals has
+--   NamesBatch L plan words start no batch    at number 10 the batch is the one at which the run of the plan ended
 --   FirstShort L                       the statement: number 10 names a batch of the plan; those before it have their words, and with it the
 --                                      words do not suffice
 use mathlib.Core.Path.{_≡_}
@@ -65,6 +66,9 @@ pub record Which (first second third : ℕ) (A B C : Type 0) (Rest : ℕ → Typ
   pub two : (number ≡ second) ↔ (A × (¬ B))
   pub three : (number ≡ third) ↔ (A × (B × (¬ C)))
   pub rest : Rest number ↔ (A × (B × C))
+
+abbrev pub NamesBatch : ℕ → List (List ℕ) → List ℕ → ℕ → ℕ → ℕ → Type 0
+NamesBatch L plan words start number batch = number ≡ 10 → run L plan words start ≡ short batch
 
 abbrev pub FirstShort : ℕ → Type 0
 FirstShort L = (plan : List (List ℕ)) (words : List ℕ) (start k : ℕ) → run L plan words start ≡ short k

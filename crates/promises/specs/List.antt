@@ -5,6 +5,7 @@
 --   Refuses, Gives W words start bs lent got  demands 1 and 2, of one call and what the caller got: the rolls of the bounds, cut into
 --                                             batches, in front of the rest of the lent list
 --   Demand1 W op, Demand2 W op                the demands, on every call
+--   BatchNamed W                              at number 10 the batch is the one at which the run ended
 --   Bounds W                                  batch after batch the bounds are those of the list, and each batch can be rolled
 --   Settled W, StandIns W, Promise W          as of one batch
 use mathlib.Core.Path.{_≡_}
@@ -20,7 +21,7 @@ use Rattle.rules.specs.Width.{Width}
 use Rattle.answers.specs.Outcome.{shown}
 use Rattle.answers.specs.declared.answer.Answer.{Answer}
 use Rattle.lists.specs.List.{listRefusals, seenList}
-use Rattle.promises.specs.Demand1.{Callable, AsRefused, numbersOf}
+use Rattle.promises.specs.Demand1.{Callable, AsRefused, numbersOf, NamesBatch}
 use Rattle.promises.specs.Demand2.{Allowed, ByMethod}
 
 abbrev pub Op : Type 0
@@ -39,6 +40,10 @@ Gives W words start bs lent got = Allowed (listRefusals W words start bs (length
 abbrev pub Demand1 : Width → Op → Type 0
 Demand1 W op = (words : List ℕ) (start : ℕ) (bs lent : List ℕ) → Callable (W .bits) words → Callable (W .bits) bs
     → Refuses W words start bs lent (op words start bs lent)
+
+abbrev pub BatchNamed : Width → Type 0
+BatchNamed W = (words : List ℕ) (start : ℕ) (bs lent : List ℕ) → Callable (W .bits) words → Callable (W .bits) bs
+    → let a : Answer = seenList W words start bs lent .0 in NamesBatch (W .bits) (cut (W .limit) bs) words start (a .no) (a .batch)
 
 abbrev pub Demand2 : Width → Op → Type 0
 Demand2 W op = (words : List ℕ) (start : ℕ) (bs lent : List ℕ) → Callable (W .bits) words → Callable (W .bits) bs
@@ -71,6 +76,7 @@ pub record StandIns (W : Width) : Type 0 where
 pub record Promise (W : Width) : Type 0 where
   pub numbers : Numbers W
   pub demand1 : Demand1 W (seenList W)
+  pub batch : BatchNamed W
   pub demand2 : Demand2 W (seenList W)
   pub bounds : Bounds W
   pub settled : Settled W

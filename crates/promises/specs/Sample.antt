@@ -8,6 +8,7 @@
 --   Refuses, Gives W words start xs k lent got    demands 1 and 2, of one call and what the caller got: the reservoir with the method's
 --                                                 rolls, in front of the rest of the lent list
 --   Demand1 W op, Demand2 W op                    the demands, on every call
+--   BatchNamed W                                  at number 10 the batch is the one at which the run ended
 --   Bounds W                                      batch after batch the bounds are k + 1, .., n, and each batch can be rolled
 --   Settled W, StandIns W                         as of one batch
 --   Holds got j x                                 what a sample gave is not refused, and slot j holds the record x
@@ -27,7 +28,7 @@ use Rattle.rules.specs.Width.{Width}
 use Rattle.answers.specs.Outcome.{shown}
 use Rattle.answers.specs.declared.answer.Answer.{Answer}
 use Rattle.draws.specs.Sample.{samplePlan, sampleRefusals, seenSample}
-use Rattle.promises.specs.Demand1.{Callable, AsRefused, numbersOf}
+use Rattle.promises.specs.Demand1.{Callable, AsRefused, numbersOf, NamesBatch}
 use Rattle.promises.specs.Demand2.{Allowed, ByMethod}
 
 abbrev pub Op : Type 0
@@ -47,6 +48,10 @@ Gives W words start xs k lent got = Allowed (sampleRefusals W words start (lengt
 abbrev pub Demand1 : Width → Op → Type 0
 Demand1 W op = (words : List ℕ) (start : ℕ) (xs : List ℕ) (k : ℕ) (lent : List ℕ) → Callable (W .bits) words
     → Refuses W words start xs k lent (op words start xs k lent)
+
+abbrev pub BatchNamed : Width → Type 0
+BatchNamed W = (words : List ℕ) (start : ℕ) (xs : List ℕ) (k : ℕ) (lent : List ℕ) → Callable (W .bits) words
+    → let a : Answer = seenSample W words start xs k lent .0 in NamesBatch (W .bits) (samplePlan W (length xs) k) words start (a .no) (a .batch)
 
 abbrev pub Demand2 : Width → Op → Type 0
 Demand2 W op = (words : List ℕ) (start : ℕ) (xs : List ℕ) (k : ℕ) (lent : List ℕ) → Callable (W .bits) words
@@ -93,6 +98,7 @@ CouldComeUp W op = (n k i : ℕ) → n ≤ maxRecords → 1 ≤ k → k ≤ n �
 pub record Promise (W : Width) : Type 0 where
   pub numbers : Numbers W
   pub demand1 : Demand1 W (seenSample W)
+  pub batch : BatchNamed W
   pub demand2 : Demand2 W (seenSample W)
   pub bounds : Bounds W
   pub settled : Settled W

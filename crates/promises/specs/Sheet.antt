@@ -13,6 +13,7 @@
 --   Refuses, Draws, Gives W s lent got    demands 1 and 2, of one call and what the caller got: the sample from start 0 of the sheet's words
 --                                     and records, by the very demand of the sample; and the six numbers come back with it
 --   Demand1 W op, Demand2 W op        the demands, on every call
+--   BatchNamed W                      at number 10 the batch is the one at which the run ended
 --   Settled W, StandIns W, Promise W  as of one batch
 use mathlib.Core.Path.{_≡_}
 use mathlib.Core.Logic.{_↔_, _⊎_, _≢_}
@@ -30,7 +31,7 @@ use Rattle.sheet.specs.Sheet as sheet
 use Rattle.sheet.specs.ReadSheet.{drawnBy, shownDrawn}
 use Rattle.sheet.specs.RunSheet.{sheetRefusals, seenSheet}
 use Rattle.sheet.specs.declared.read.Drawn.{Drawn}
-use Rattle.promises.specs.Demand1.{AsRefused, Which, numbersOf}
+use Rattle.promises.specs.Demand1.{AsRefused, Which, numbersOf, NamesBatch}
 use Rattle.promises.specs.Demand2.{Allowed, ByMethod}
 
 abbrev pub Op : Type 0
@@ -74,6 +75,10 @@ Gives W s lent got = Allowed (sheetRefusals W s (length lent)) → Draws W s len
 abbrev pub Demand1 : Width → Op → Type 0
 Demand1 W op = (s lent : List ℕ) → Bytes s → Refuses W s lent (op s lent)
 
+abbrev pub BatchNamed : Width → Type 0
+BatchNamed W = (s lent : List ℕ) → Bytes s
+    → let d : Drawn = seenSheet W s lent .0 in NamesBatch (W .bits) (samplePlan W (numbers s .records) (numbers s .k)) (wordsOf s) 0 (d .no) (d .batch)
+
 abbrev pub Demand2 : Width → Op → Type 0
 Demand2 W op = (s lent : List ℕ) → Bytes s → Gives W s lent (op s lent)
 
@@ -89,6 +94,7 @@ pub record Promise (W : Width) : Type 0 where
   pub sound : Sound
   pub fits : Fits
   pub demand1 : Demand1 W (seenSheet W)
+  pub batch : BatchNamed W
   pub when : (s lent : List ℕ) → Bytes s → When s lent (seenSheet W s lent .0 .no)
   pub demand2 : Demand2 W (seenSheet W)
   pub settled : Settled W

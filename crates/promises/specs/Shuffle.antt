@@ -4,6 +4,7 @@
 --   Numbers W                              the numbers that it can meet, as document 01 lists them
 --   Refuses, Gives W words start xs got    demands 1 and 2, of one call and what the caller got: Fisher-Yates with the method's rolls
 --   Demand1 W op, Demand2 W op             the demands, on every call
+--   BatchNamed W                           at number 10 the batch is the one at which the run ended
 --   Bounds W                               batch after batch the bounds are n, n - 1, .., 2, and each batch can be rolled
 --   MovesNothing op                        the records are left as they were, whatever the answer
 --   FirstBatchOnly W op                    it refuses as it should, and else leaves the records as the first batch has them
@@ -21,7 +22,7 @@ use Rattle.rules.specs.Width.{Width}
 use Rattle.answers.specs.Outcome.{shown}
 use Rattle.answers.specs.declared.answer.Answer.{Answer}
 use Rattle.shuffles.specs.Shuffle.{shuffleRefusals, seenShuffle}
-use Rattle.promises.specs.Demand1.{Callable, AsRefused, numbersOf, firstOf}
+use Rattle.promises.specs.Demand1.{Callable, AsRefused, numbersOf, firstOf, NamesBatch}
 use Rattle.promises.specs.Demand2.{Allowed, ByMethod}
 
 abbrev pub Op : Type 0
@@ -39,6 +40,10 @@ Gives W words start xs got = Allowed (shuffleRefusals W words start (length xs))
 
 abbrev pub Demand1 : Width → Op → Type 0
 Demand1 W op = (words : List ℕ) (start : ℕ) (xs : List ℕ) → Callable (W .bits) words → Refuses W words start xs (op words start xs)
+
+abbrev pub BatchNamed : Width → Type 0
+BatchNamed W = (words : List ℕ) (start : ℕ) (xs : List ℕ) → Callable (W .bits) words
+    → let a : Answer = seenShuffle W words start xs .0 in NamesBatch (W .bits) (shufflePlan (W .size) (length xs)) words start (a .no) (a .batch)
 
 abbrev pub Demand2 : Width → Op → Type 0
 Demand2 W op = (words : List ℕ) (start : ℕ) (xs : List ℕ) → Callable (W .bits) words → Gives W words start xs (op words start xs)
@@ -79,6 +84,7 @@ pub record StandIns (W : Width) : Type 0 where
 pub record Promise (W : Width) : Type 0 where
   pub numbers : Numbers W
   pub demand1 : Demand1 W (seenShuffle W)
+  pub batch : BatchNamed W
   pub demand2 : Demand2 W (seenShuffle W)
   pub bounds : Bounds W
   pub settled : Settled W
