@@ -20,7 +20,8 @@ use Rattle.answers.specs.Supplied.{supplied}
 use Rattle.answers.specs.declared.supply.Supply.the-variants.{Enough, Short}
 use Rattle.answers.proofs.Deciding.{supplied-enough, supplied-short, word-short, word-done}
 use Rattle.lists.proofs.Filling.{length-list}
-use Rattle.draws.specs.Sample.{samplePlan, rolledSample}
+use Rattle.draws.specs.Inner.{rolledSample}
+use Rattle.draws.specs.Sample.{samplePlan}
 
 module _ (words : List ℕ) (start n k : ℕ) where
   abbrev plan : List (List ℕ)

@@ -1,7 +1,6 @@
 -- The sample: its refusals in the order of document 01, its plan, its reading, and what its caller sees.
 --
 --   samplePlan W n k                        the batches of a sample of k from n records
---   rolledSample W words start n k          the rolls of these batches, refused by 10 where one gets no word
 --   sampleRefusals W words start n k room   the numbers that it can meet, each with its test
 --   sampled W words start xs k              the sample, where nothing is refused
 --   sample W words start xs k room          what comes of it: k of the records xs, with room for so many
@@ -14,9 +13,8 @@ use lib.ListN.{length, take, drop}
 use Rattle.rules.specs.Cut.{cut}
 use Rattle.rules.specs.Limits.{maxRecords}
 use Rattle.rules.specs.Reservoir.{countup, reservoir}
-use Rattle.rules.specs.Run.{run}
 use Rattle.rules.specs.Width.{Width}
-use Rattle.answers.specs.Outcome.{Outcome, Refusal, no, noWord, decide, outside, ofWords, fromRun, seen}
+use Rattle.answers.specs.Outcome.{Outcome, Refusal, no, decide, outside, ofWords, fromRun, seen}
 use Rattle.answers.specs.declared.answer.Answer.{Answer}
 
 -- The bounds k + 1, .., n are cut as a list of bounds.
@@ -26,12 +24,6 @@ samplePlan W n k = cut (W .limit) (countup (n - k) (k + 1))
 abbrev pub sampleRefusals : Width → List ℕ → ℕ → ℕ → ℕ → ℕ → List Refusal
 sampleRefusals W words start n k room =
     no 2 (outside 0 maxRecords n) ∷ no 3 (outside 1 n k) ∷ no 6 (ltb room k) ∷ ofWords (W .bits) (samplePlan W n k) words start
-
--- one for each place from k on
-abbrev pub rolledSample : Width → List ℕ → ℕ → ℕ → ℕ → Outcome
-rolledSample W words start n k =
-    let plan : List (List ℕ) = samplePlan W n k in
-    decide (noWord (run (W .bits) plan words start) ∷ []) (fromRun (W .bits) plan words start (λ rolls. rolls))
 
 -- The first k records are put in the slots; each later one has its roll.
 abbrev pub sampled : Width → List ℕ → ℕ → List ℕ → ℕ → Outcome

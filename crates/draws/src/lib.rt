@@ -1,5 +1,5 @@
-// The sample: a reservoir with batched rolls. The public operation answers every input.
+// The sample: a reservoir with batched rolls. The public operation (sample) answers every input; rolling asks what its callers know.
 //
-// Contracts cite specs/: Sample (refusals, plan and reading of a sample).
+// Contracts cite specs/: Sample (refusals, plan and reading of a sample) and Inner (what rolling a sample comes to).
 pub mod rolling;
 pub mod sample;

@@ -11,7 +11,8 @@ ghost use Rattle.rules.specs.Run.{run};
 ghost use Rattle.rules.specs.Width.{w64};
 ghost use Rattle.answers.specs.Outcome.{left};
 ghost use Rattle.answers.specs.Supplied.{supplied};
-ghost use Rattle.draws.specs.Sample.{samplePlan, rolledSample};
+ghost use Rattle.draws.specs.Inner.{rolledSample};
+ghost use Rattle.draws.specs.Sample.{samplePlan};
 
 // Fills the list with from, from + 1, and so on.
 fn count_up(bounds: &mut [u64], from: u64)

@@ -14,7 +14,8 @@ use Rattle.answers.specs.Outcome.{Outcome, refused, decide, fromRun}
 use Rattle.answers.specs.Supplied.{supplied}
 use Rattle.answers.specs.declared.supply.Supply.the-variants.{Enough, Short}
 use Rattle.answers.proofs.Deciding.{decide-here, decide-past, decide-append, supplied-enough}
-use Rattle.draws.specs.Sample.{samplePlan, rolledSample}
+use Rattle.draws.specs.Inner.{rolledSample}
+use Rattle.draws.specs.Sample.{samplePlan}
 use Rattle.draws.proofs.Rolled.{rolled-short, rolled-done}
 use Rattle.sheet.specs.ReadSheet.{unreadable}
 use Rattle.sheet.specs.Sheet.{numbers, wordsOf}

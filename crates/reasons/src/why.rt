@@ -12,7 +12,7 @@ ghost use mathlib.Core.Path.{_≡_};
 ghost use Prim.Native.Nat.{_<_, _≤_};
 ghost use Rattle.rules.specs.Width.{w64};
 ghost use Rattle.answers.specs.Outcome.{refused};
-ghost use Rattle.draws.specs.Sample.{rolledSample};
+ghost use Rattle.draws.specs.Inner.{rolledSample};
 ghost use Rattle.reasons.specs.Why.{told, shownWhy, seenWhy};
 
 // The answer to why: the reason, from 1 to 4, and what it names; fields that do not apply are 0.
