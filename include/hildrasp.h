@@ -85,24 +85,25 @@ typedef struct {
     size_t length; /* in bytes */
 } hildrasp_written;
 
-/*
- * Why a record was drawn or not: the one reason that is true in this draw. Fields that do not apply are 0.
- *
- * 1: it was among the first k and stayed in its slot.
- * 2: it was rolled into a slot at its step and stayed there.
- * 3: it held a slot until a later record took that slot; the first such record is named.
- * 4: its own roll was k or more.
- */
+/* The reasons why a record was drawn or not. Exactly one is true in a draw. */
+enum {
+    HILDRASP_STAYED = 1,     /* it was among the first k and stayed in its slot */
+    HILDRASP_ROLLED_IN = 2,  /* it was rolled into a slot at its step and stayed there */
+    HILDRASP_TAKEN = 3,      /* it held a slot until a later record took that slot; the first such record is named */
+    HILDRASP_PASSED_OVER = 4 /* its own roll was k or more */
+};
+
+/* Why a record was drawn or not. Fields that do not apply are 0. */
 typedef struct {
     uint64_t no;
     size_t next;
     size_t rejected;
     size_t batch;
     uint64_t reason; /* 1 to 4, 0 on a refusal */
-    size_t slot;     /* at reasons 1, 2 and 3, from 0 */
-    size_t by_place; /* at reason 3, the place of the record that took the slot */
-    size_t by_step;  /* at reason 3, the step of that record: place i has step i - k */
-    uint64_t roll;   /* at reason 4, the record's own roll */
+    size_t slot;     /* at HILDRASP_STAYED, HILDRASP_ROLLED_IN and HILDRASP_TAKEN, from 0 */
+    size_t by_place; /* at HILDRASP_TAKEN, the place of the record that took the slot */
+    size_t by_step;  /* at HILDRASP_TAKEN, the step of that record: place i has step i - k */
+    uint64_t roll;   /* at HILDRASP_PASSED_OVER, the record's own roll */
 } hildrasp_reason;
 
 /* Rolls one batch of 1 to 16 bounds. Refusals: 2, 4, 5, 9, 10. */

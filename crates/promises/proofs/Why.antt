@@ -129,60 +129,33 @@ demand2 s place b a = explains s place a b
 
 -- ---- one answer
 
+same-fields : (r t : Reason) → (r .no ≡ t .no) × (r .next ≡ t .next) × (r .rejected ≡ t .rejected) × (r .batch ≡ t .batch)
+    → (r .reason ≡ t .reason) × (r .slot ≡ t .slot) × (r .«by_place» ≡ t .«by_place») × (r .«by_step» ≡ t .«by_step») × (r .roll ≡ t .roll) → r ≡ t
+same-fields r t (a, b, c, d) (e, f, g, h, j) = λ i. record {
+  no = a i;
+  next = b i;
+  rejected = c i;
+  batch = d i;
+  reason = e i;
+  slot = f i;
+  «by_place» = g i;
+  «by_step» = h i;
+  roll = j i;
+}
+
 -- what tells what happened tells what is computed
 tells-told : (k : ℕ) (js : List ℕ) (p : ℕ) (r : Reason) → (r .no ≡ 0) × (r .batch ≡ 0) → Tells k js p r → r ≡ told (r .next) (r .rejected) (fateOf k js p)
-tells-told k js p r (z, y) (inl (e, h, a, b, c)) =
-    let same : r ≡ told (r .next) (r .rejected) (fate.Stayed (r .slot)) = λ i. record {
-      no = z i;
-      next = r .next;
-      rejected = r .rejected;
-      batch = y i;
-      reason = e i;
-      slot = r .slot;
-      «by_place» = a i;
-      «by_step» = b i;
-      roll = c i;
-    } in
-    same ∙ ap (told (r .next) (r .rejected)) (fate-only k js p (fate.Stayed (r .slot)) h)
-tells-told k js p r (z, y) (inr (inl (e, h, a, b, c))) =
-    let same : r ≡ told (r .next) (r .rejected) (fate.RolledIn (r .slot)) = λ i. record {
-      no = z i;
-      next = r .next;
-      rejected = r .rejected;
-      batch = y i;
-      reason = e i;
-      slot = r .slot;
-      «by_place» = a i;
-      «by_step» = b i;
-      roll = c i;
-    } in
-    same ∙ ap (told (r .next) (r .rejected)) (fate-only k js p (fate.RolledIn (r .slot)) h)
-tells-told k js p r (z, y) (inr (inr (inl (e, h, c)))) =
-    let same : r ≡ told (r .next) (r .rejected) (fate.Taken (r .slot) (r .«by_place») (r .«by_step»)) = λ i. record {
-      no = z i;
-      next = r .next;
-      rejected = r .rejected;
-      batch = y i;
-      reason = e i;
-      slot = r .slot;
-      «by_place» = r .«by_place»;
-      «by_step» = r .«by_step»;
-      roll = c i;
-    } in
-    same ∙ ap (told (r .next) (r .rejected)) (fate-only k js p (fate.Taken (r .slot) (r .«by_place») (r .«by_step»)) h)
-tells-told k js p r (z, y) (inr (inr (inr (e, h, a, b, c)))) =
-    let same : r ≡ told (r .next) (r .rejected) (fate.PassedOver (r .roll)) = λ i. record {
-      no = z i;
-      next = r .next;
-      rejected = r .rejected;
-      batch = y i;
-      reason = e i;
-      slot = a i;
-      «by_place» = b i;
-      «by_step» = c i;
-      roll = r .roll;
-    } in
-    same ∙ ap (told (r .next) (r .rejected)) (fate-only k js p (fate.PassedOver (r .roll)) h)
+tells-told k js p r (z, y) t = go t
+  where
+    told-as : (f : Fate) → Happened k js p f → r ≡ told (r .next) (r .rejected) f → r ≡ told (r .next) (r .rejected) (fateOf k js p)
+    told-as f h e = e ∙ ap (told (r .next) (r .rejected)) (fate-only k js p f h)
+
+    go : Tells k js p r → r ≡ told (r .next) (r .rejected) (fateOf k js p)
+    go (inl (e, h, a, b, c)) = told-as (fate.Stayed (r .slot)) h (same-fields r _ (z, refl, refl, y) (e, refl, a, b, c))
+    go (inr (inl (e, h, a, b, c))) = told-as (fate.RolledIn (r .slot)) h (same-fields r _ (z, refl, refl, y) (e, refl, a, b, c))
+    go (inr (inr (inl (e, h, c)))) =
+        told-as (fate.Taken (r .slot) (r .«by_place») (r .«by_step»)) h (same-fields r _ (z, refl, refl, y) (e, refl, refl, refl, c))
+    go (inr (inr (inr (e, h, a, b, c)))) = told-as (fate.PassedOver (r .roll)) h (same-fields r _ (z, refl, refl, y) (e, a, b, c, refl))
 
 one-answer : (s : List ℕ) (place : ℕ) → Allowed (whyRefusals w64 s place) → Bytes s → (a b : Reason) → Explains w64 s place a → Explains w64 s place b → a ≡ b
 one-answer s place al bytes a b x y =

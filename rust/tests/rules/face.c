@@ -93,7 +93,7 @@ static void has_its_reasons(const uint8_t sheet[52])
     for (size_t place = 0; place < 3; place++) {
         hildrasp_reason why = hildrasp_why(sheet, 52, place);
         HOLDS(why.no == 0 && why.next == 2 && why.rejected == 1 && why.batch == 0);
-        HOLDS(why.reason == (place < 2 ? 3 : 2) && why.slot == 0 && why.roll == 0);
+        HOLDS(why.reason == (place < 2 ? HILDRASP_TAKEN : HILDRASP_ROLLED_IN) && why.slot == 0 && why.roll == 0);
         HOLDS(why.by_place == (place < 2 ? place + 1 : 0) && why.by_step == (place < 2 ? place : 0));
     }
     hildrasp_reason why = hildrasp_why(sheet, 52, 3);
@@ -112,7 +112,8 @@ static void passes_over_the_last_of_18(void)
     HOLDS(hildrasp_write_sheet(words, 2, records, 18, 1, 1, sheet, 112).length == 112);
     hildrasp_reason why = hildrasp_why(sheet, 112, 17);
     HOLDS(why.no == 0 && why.next == 2 && why.rejected == 0 && why.batch == 0);
-    HOLDS(why.reason == 4 && why.slot == 0 && why.by_place == 0 && why.by_step == 0 && why.roll == 17);
+    HOLDS(why.reason == HILDRASP_PASSED_OVER && why.slot == 0 && why.by_place == 0 && why.by_step == 0 && why.roll == 17);
+    HOLDS(hildrasp_why(sheet, 112, 0).reason == HILDRASP_STAYED);
     hildrasp_write_sheet(words, 1, records, 18, 1, 1, sheet, 112);
     why = hildrasp_why(sheet, 104, 17);
     HOLDS(why.no == HILDRASP_WORDS && why.next == 0 && why.batch == 1 && why.reason == 0 && why.roll == 0);
