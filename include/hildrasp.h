@@ -87,8 +87,8 @@ typedef struct {
 
 /* The reasons why a record was drawn or not. Exactly one is true in a draw. */
 enum {
-    HILDRASP_STAYED = 1,     /* it was among the first k and stayed in its slot */
-    HILDRASP_ROLLED_IN = 2,  /* it was rolled into a slot at its step and stayed there */
+    HILDRASP_STAYED = 1,     /* it was among the first k and stayed in its slot until the final shuffle */
+    HILDRASP_ROLLED_IN = 2,  /* it was rolled into a slot at its step and stayed there until the final shuffle */
     HILDRASP_TAKEN = 3,      /* it held a slot until a later record took that slot; the first such record is named */
     HILDRASP_PASSED_OVER = 4 /* its own roll was k or more */
 };
@@ -99,11 +99,12 @@ typedef struct {
     size_t next;
     size_t rejected;
     size_t batch;
-    uint64_t reason; /* 1 to 4, 0 on a refusal */
-    size_t slot;     /* at HILDRASP_STAYED, HILDRASP_ROLLED_IN and HILDRASP_TAKEN, from 0 */
-    size_t by_place; /* at HILDRASP_TAKEN, the place of the record that took the slot */
-    size_t by_step;  /* at HILDRASP_TAKEN, the step of that record: place i has step i - k */
-    uint64_t roll;   /* at HILDRASP_PASSED_OVER, the record's own roll */
+    uint64_t reason;   /* 1 to 4, 0 on a refusal */
+    size_t slot;       /* at HILDRASP_STAYED, HILDRASP_ROLLED_IN and HILDRASP_TAKEN, the reservoir's slot, from 0 */
+    size_t final_slot; /* at HILDRASP_STAYED and HILDRASP_ROLLED_IN, where the record stands after the final shuffle */
+    size_t by_place;   /* at HILDRASP_TAKEN, the place of the record that took the slot */
+    size_t by_step;    /* at HILDRASP_TAKEN, the step of that record: place i has step i - k */
+    uint64_t roll;     /* at HILDRASP_PASSED_OVER, the record's own roll */
 } hildrasp_reason;
 
 /* Rolls one batch of 1 to 16 bounds. Refusals: 2, 4, 5, 9, 10. */
@@ -119,7 +120,12 @@ hildrasp_answer hildrasp_roll_list(const uint64_t *words, size_t word_count, siz
 hildrasp_answer hildrasp_shuffle(const uint64_t *words, size_t word_count, size_t start,
                                  uint32_t *records, size_t record_count);
 
-/* Samples k of 0 to 16,384 records into the lent list `slots`. Refusals: 2, 3, 6, 9, 10. */
+/*
+ * Samples k of 0 to 16,384 records into the lent list `slots`: the reservoir, its bounds k + 1, .., n cut as a list of
+ * bounds; then its k slots are shuffled as hildrasp_shuffle does, with the words that follow. Refusals: 2, 3, 6, 9, 10.
+ * The batches of HILDRASP_WORDS are counted on from the reservoir into the final shuffle; the slots stay the same also
+ * where that alone lacks words.
+ */
 hildrasp_answer hildrasp_sample(const uint64_t *words, size_t word_count, size_t start,
                                 const uint32_t *records, size_t record_count, size_t k,
                                 uint32_t *slots, size_t room);
@@ -132,7 +138,10 @@ hildrasp_behind hildrasp_words_behind(const uint64_t *bounds, size_t bound_count
 hildrasp_answer hildrasp_rolls_behind(const uint32_t *order, size_t order_count,
                                       uint64_t *rolls, size_t room);
 
-/* Runs a draw sheet of 24 to 65,535 bytes: the sample from start 0, into the lent list `slots`. Refusals: 1, 3, 6, 10. */
+/*
+ * Runs a draw sheet of 24 to 65,535 bytes: the sample from start 0, with its final shuffle, into the lent list `slots`.
+ * The first w slots are the early reviews, the others late. Refusals: 1, 3, 6, 10.
+ */
 hildrasp_drawn hildrasp_run_sheet(const uint8_t *sheet, size_t byte_count, uint32_t *slots, size_t room);
 
 /*
@@ -156,9 +165,10 @@ hildrasp_drawn hildrasp_read_sheet(const uint8_t *sheet, size_t byte_count,
 /*
  * Tells why the record at a place, from 0, of a draw sheet of 24 to 65,535 bytes was drawn or not, in the draw that
  * hildrasp_run_sheet runs; `next` and `rejected` are those of the draw. It goes by place, since record numbers may
- * repeat. Refusals: 1, 3, 7 where the place isn't below the count of records, 10. Cost: linear in the counts of words
- * and records: the sheet is read once, the words are gone over in one dry run, each roll is made once, and one pass
- * over the rolls finds the reason; with about 320 KiB of stack.
+ * repeat. Refusals: 1, 3, 7 where the place isn't below the count of records, 10 also where the final shuffle alone
+ * lacks words, with the batch that hildrasp_run_sheet names. Cost: linear in the counts of words and records: the sheet
+ * is read once, the words are gone over in one dry run, each roll is made once, and one pass over the rolls finds the
+ * reason; with about 320 KiB of stack.
  */
 hildrasp_reason hildrasp_why(const uint8_t *sheet, size_t byte_count, size_t place);
 

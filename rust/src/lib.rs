@@ -186,14 +186,17 @@ pub fn shuffle(words: &[u64], start: usize, records: &mut [u32]) -> Result<Used,
 /// records and k is 1 to n.
 ///
 /// The first k records are put in slots 0..k - 1. For each place i from k to n - 1, j is rolled with bound i + 1; if j is
-/// below k, slot j gets record i. The bounds k + 1, .., n are cut as [`roll_list`] cuts them.
+/// below k, slot j gets record i. The bounds k + 1, .., n are cut as [`roll_list`] cuts them. Then the k slots are
+/// shuffled as [`shuffle`] shuffles k records, with the words that follow.
 ///
-/// **Words used:** from `start` in list order, for each batch up to its first accepted one; none where k is n.
+/// **Words used:** from `start` in list order, for each batch up to its first accepted one: first the batches of the
+/// reservoir, then those of the final shuffle. A sample of 1 from 1 uses none.
 ///
 /// **Refusals, in this order:** 2 [`Count`](Refusal::Count), 3 [`Sample`](Refusal::Sample), 6 [`Room`](Refusal::Room),
-/// 9 [`Start`](Refusal::Start), 10 [`Words`](Refusal::Words). The slots then stay the same.
+/// 9 [`Start`](Refusal::Start), 10 [`Words`](Refusal::Words), whose batches are counted on from the reservoir into the
+/// final shuffle. The slots then stay the same, also where the final shuffle alone lacks words.
 ///
-/// **Cost:** as a list of n - k bounds, and two arrays of 16,384 numbers whatever n is.
+/// **Cost:** as a list of n - k bounds and a shuffle of k records, and two arrays of 16,384 numbers whatever n is.
 ///
 /// Under the same rules the answer to the same words, start, records and k never changes.
 ///
@@ -203,6 +206,18 @@ pub fn shuffle(words: &[u64], start: usize, records: &mut [u32]) -> Result<Used,
 /// let used = hildrasp::sample(&[0, 1], 0, &[101, 205, 309], 1, &mut slots)?;
 /// assert_eq!(slots, [309]);
 /// assert_eq!(used, hildrasp::Used { next: 2, rejected: 1 });
+///
+/// // Two of them: word 1 rolls 0 for record 309, which takes slot 0 from 101; then word 0 exchanges the two slots.
+/// let mut slots = [0; 2];
+/// let used = hildrasp::sample(&[1, 0], 0, &[101, 205, 309], 2, &mut slots)?;
+/// assert_eq!(slots, [205, 309]);
+/// assert_eq!(used, hildrasp::Used { next: 2, rejected: 0 });
+///
+/// // Word 1 does for the reservoir alone. Its one batch is number 0, and that of the final shuffle number 1.
+/// let mut slots = [7; 2];
+/// let refusal = hildrasp::sample(&[1], 0, &[101, 205, 309], 2, &mut slots);
+/// assert_eq!(refusal, Err(hildrasp::Refusal::Words { batch: 1 }));
+/// assert_eq!(slots, [7; 2]);
 /// # Ok::<(), hildrasp::Refusal>(())
 /// ```
 pub fn sample(words: &[u64], start: usize, records: &[u32], k: usize, slots: &mut [u32]) -> Result<Used, Refusal> {
@@ -232,7 +247,8 @@ pub fn rolls_behind(order: &[u32], rolls: &mut [u64]) -> Result<(), Refusal> {
 }
 
 /// Runs a draw sheet of 24 to 65,535 bytes: the sample of its records by its words from start 0, in the first k places of
-/// the lent list `slots`; places past k stay.
+/// the lent list `slots`; places past k stay. The first w slots, as the final shuffle leaves them, are the early
+/// reviews, the others late.
 ///
 /// A sheet starts with six 32-bit numbers, low byte first: count of words, byte offset of words, count of records, byte
 /// offset of records, k, w. Words take 8 bytes, records 4, low byte first. The sheet is sound exactly when its length is
@@ -242,7 +258,7 @@ pub fn rolls_behind(order: &[u32], rolls: &mut [u64]) -> Result<(), Refusal> {
 /// **Words used:** those of the sheet, as [`sample`] uses them.
 ///
 /// **Refusals, in this order:** 1 [`Sheet`](Refusal::Sheet), 3 [`Sample`](Refusal::Sample), 6 [`Room`](Refusal::Room),
-/// 10 [`Words`](Refusal::Words). The slots then stay the same.
+/// 10 [`Words`](Refusal::Words), with the batch that [`sample`] names. The slots then stay the same.
 ///
 /// **Cost:** a copy of each word and each record, in arrays of the most that a sheet holds; then as [`sample`].
 ///
@@ -356,12 +372,14 @@ pub fn read_sheet(sheet: &[u8], words: &mut [u64], records: &mut [u32]) -> Resul
 ///
 /// The first k records are put in the slots of their own places. The record at a later place i is rolled at step i - k,
 /// and takes the slot that is its roll, if that is below k. A record holds its slot until a later one takes it; the
-/// first that does is named.
+/// first that does is named. A record that still holds its slot after the last step was drawn, and the final shuffle
+/// puts it in its final slot, which is named too.
 ///
 /// **Words used:** those of the sheet, as [`run_sheet`] uses them.
 ///
 /// **Refusals, in this order:** 1 [`Sheet`](Refusal::Sheet), 3 [`Sample`](Refusal::Sample),
-/// 7 [`Misfit`](Refusal::Misfit) where the place isn't below the count of records, 10 [`Words`](Refusal::Words).
+/// 7 [`Misfit`](Refusal::Misfit) where the place isn't below the count of records, 10 [`Words`](Refusal::Words) as
+/// [`run_sheet`] is, also where the final shuffle alone lacks words.
 ///
 /// **Cost:** linear in the count of words and the count of records: a copy of each, in arrays of the most that a sheet
 /// holds; one dry run over the words; each roll made once; one pass over the rolls.
@@ -371,21 +389,22 @@ pub fn read_sheet(sheet: &[u8], words: &mut [u64], records: &mut [u32]) -> Resul
 /// ```
 /// use hildrasp::{Reason, Refusal};
 ///
-/// // Two of four records by the words 2^63 and 2^63 + 1. Bounds 3 and 4 are one batch; 2^64 mod 12 is 4. The first word
-/// // leaves a last r of 0 and is rejected. The second: 3 (2^63 + 1) is 1 times 2^64 plus 2^63 + 3, so record 309 rolls
-/// // 1 and takes slot 1; 4 (2^63 + 3) is 2 times 2^64 plus 12, so record 412 rolls 2 and takes none.
-/// let mut sheet = [0; 56];
-/// hildrasp::write_sheet(&[1 << 63, (1 << 63) + 1], &[101, 205, 309, 412], 2, 1, &mut sheet)?;
-/// assert_eq!(hildrasp::why(&sheet, 0)?.reason, Reason::Stayed { slot: 0 });
+/// // Two of four records by the words 2^63, 2^63 + 1 and 0. Bounds 3 and 4 are one batch; 2^64 mod 12 is 4. The first
+/// // word leaves a last r of 0 and is rejected. The second: 3 (2^63 + 1) is 1 times 2^64 plus 2^63 + 3, so record 309
+/// // rolls 1 and takes slot 1; 4 (2^63 + 3) is 2 times 2^64 plus 12, so record 412 rolls 2 and takes none. Then word 0
+/// // rolls 0 with bound 2: the final shuffle exchanges the two slots.
+/// let mut sheet = [0; 64];
+/// hildrasp::write_sheet(&[1 << 63, (1 << 63) + 1, 0], &[101, 205, 309, 412], 2, 1, &mut sheet)?;
+/// assert_eq!(hildrasp::why(&sheet, 0)?.reason, Reason::Stayed { slot: 0, final_slot: 1 });
 /// assert_eq!(hildrasp::why(&sheet, 1)?.reason, Reason::Taken { slot: 1, by_place: 2, by_step: 0 });
-/// assert_eq!(hildrasp::why(&sheet, 2)?.reason, Reason::RolledIn { slot: 1 });
+/// assert_eq!(hildrasp::why(&sheet, 2)?.reason, Reason::RolledIn { slot: 1, final_slot: 0 });
 /// assert_eq!(hildrasp::why(&sheet, 3)?.reason, Reason::PassedOver { roll: 2 });
 /// assert_eq!(hildrasp::why(&sheet, 4), Err(Refusal::Misfit));
 ///
-/// // So the draw is 101 and 309.
+/// // So the draw is 309 and 101.
 /// let mut slots = [0; 2];
 /// let draw = hildrasp::run_sheet(&sheet, &mut slots)?;
-/// assert_eq!(slots, [101, 309]);
+/// assert_eq!(slots, [309, 101]);
 /// assert_eq!(hildrasp::why(&sheet, 3)?.used, draw.used);
 /// # Ok::<(), Refusal>(())
 /// ```

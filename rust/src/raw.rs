@@ -109,8 +109,10 @@ pub struct Reason {
     pub batch: usize,
     /// The number of the reason: 1 stayed, 2 rolled in and stayed, 3 taken, 4 passed over; 0 on a refusal.
     pub reason: u64,
-    /// At reasons 1, 2 and 3, the slot.
+    /// At reasons 1, 2 and 3, the slot of the reservoir.
     pub slot: usize,
+    /// At reasons 1 and 2, the slot where the final shuffle put the record.
+    pub final_slot: usize,
     /// At reason 3, the place of the first later record that took the slot.
     pub by_place: usize,
     /// At reason 3, the step of that record: place i has step i - k.

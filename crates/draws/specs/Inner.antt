@@ -1,7 +1,7 @@
 -- What rolling a sample comes to, which its reading then makes records of. No contract of a public operation cites it.
 --
---   rolledSample W words start n k    the rolls of a sample of k from n records, one for each place from k on; refused by 10 where a batch gets
---                                     no word
+--   rolledSample W words start n k    the rolls of a sample of k from n records, one for each place from k on, then those of the final shuffle;
+--                                     refused by 10 where a batch gets no word
 use mathlib.Core.List.{List, [], _∷_}
 use Prim.Native.Nat.{ℕ}
 use Rattle.rules.specs.Run.{run}

@@ -1,8 +1,10 @@
-// Rolling a sample: its bounds laid out, and their rolls where the words suffice.
+// Rolling a sample: the bounds of its reservoir laid out, and their rolls and those of its final shuffle where the words suffice.
 use answers::limits::MAX_RECORDS;
 use answers::supply::Supply;
 use lists::list::write_list;
 use lists::supply::supply_list;
+use shuffles::supply::supply_shuffle;
+use shuffles::unroll::write_shuffle;
 ghost use mathlib.Core.Path.{_≡_};
 ghost use Prim.Native.Nat.{_+_, _≤_, _<_, _^_};
 ghost use lib.ListN.{length};
@@ -26,21 +28,37 @@ fn count_up(bounds: &mut [u64], from: u64)
     }
 }
 
-// The rolls of a sample of k from n records, one for each place from k on, to the front of the lent list; where the words do not
-// suffice the list is what it was.
+// The rolls of a sample of k from n records, n - 1 of them, to the front of the lent list: one for each place from k on, then those of the
+// final shuffle of the k slots, with the words that follow. Where the words do not suffice the list is what it was.
 pub fn roll_sample(words: &[u64], start: usize, n: usize, k: usize, rolls: &mut [u64]) -> Supply
-    requires { ⌜ (start ≤ length (now words)) × (n ≤ 16384) × (k ≤ n) × (n ≤ k + length (now rolls)) ⌝ }
+    requires { ⌜ (start ≤ length (now words)) × (n ≤ 16384) × (0 < k) × (k ≤ n) × (n ≤ length (now rolls) + 1) ⌝ }
     ensures supply { λ r. ⌜ r ≡ supplied start (run 64 (samplePlan w64 n k) (now (words .entry)) start) ⌝ }
     ensures rolls { λ r. ⌜ now (rolls .exit) ≡ left (now (rolls .entry)) (rolledSample w64 (now (words .entry)) start n k) ⌝ }
 {
-    let count = n - k;
+    let later = n - k;
     let mut bounds = [0u64; MAX_RECORDS];
-    count_up(&mut bounds[..count], k as u64 + 1);
-    match supply_list(words, start, &bounds[..count]) {
-        Supply::Enough { next, rejected } => {
-            write_list(words, start, &bounds[..count], rolls);
-            Supply::Enough { next, rejected }
-        }
+    count_up(&mut bounds[..later], k as u64 + 1);
+    match supply_list(words, start, &bounds[..later]) {
+        Supply::Enough {
+            next: from,
+            rejected,
+        } => match supply_shuffle(words, from, k) {
+            Supply::Enough {
+                next,
+                rejected: more,
+            } => {
+                write_list(words, start, &bounds[..later], rolls);
+                write_shuffle(words, from, k, &mut rolls[later..]);
+                Supply::Enough {
+                    next,
+                    rejected: rejected + more,
+                }
+            }
+            // words used are batches and rejected
+            Supply::Short { batch } => Supply::Short {
+                batch: from - start - rejected + batch,
+            },
+        },
         Supply::Short { batch } => Supply::Short { batch },
     }
 }

@@ -11,7 +11,9 @@ use lib.Dec.{ltb}
 use lib.ListN.{length, take, replicate}
 use lib.Seq.{take-all, length-take-le}
 use borrow.Author.Tests.{ltb-true, ltb-false, not-false}
-use Rattle.rules.specs.Width.{w64}
+use Rattle.rules.specs.Sample.{sampleWith}
+use Rattle.rules.specs.Shuffle.{exchange, shuffleWith, countdown, shufflePlanFrom}
+use Rattle.rules.specs.Width.{size64, w64}
 use Rattle.rules.specs.Cut.{cutFrom, cut}
 use Rattle.rules.specs.Reservoir.{countup, reservoir}
 use Rattle.rules.specs.Rolls.{rolls, rest, product}
@@ -96,7 +98,7 @@ longer s = go (ltb 65536 (length s)) refl
     go false e = ap output (take-all 65536 s (ltb-false _ _ e))
 
 pub output-pinned : OutputPinned
-unfolding output runSheet sample decide entries little line digits slotLines product rolls rest find runFrom rollsOf next rejected countup reservoir cut cutFrom
+unfolding output runSheet sample sampleWith decide entries little line digits slotLines product rolls rest find runFrom rollsOf next rejected countup reservoir cut cutFrom size64 countdown shufflePlanFrom shuffleWith exchange
 output-pinned =
     record {
       example0 = refl;

@@ -2,8 +2,8 @@
 --
 --   sheet52          the sheet of 52 bytes of document 01: header 2, 24, 3, 40, 1, 1; words 0, 1; records 101, 205, 309
 --   text52           `draw 3 1 2 1`, line feed, `1 309 early`, line feed
---   sheet64          a sheet of 64 bytes: header 3, 24, 4, 48, 3, 2; words 2^64 - 1, three times; records 4294967295, 0, 1000000000, 7
---   text64           `draw 4 3 1 0`, `1 4294967295 early`, `2 0 early`, `3 1000000000 late`, with a line feed after each
+--   sheet64          a sheet of 64 bytes: header 3, 24, 4, 48, 3, 2; words 2^64 - 1, 1, 2^64 - 1; records 4294967295, 0, 1000000000, 7
+--   text64           `draw 4 3 2 0`, `1 0 early`, `2 1000000000 early`, `3 4294967295 late`, with a line feed after each
 --   text0            `refused 1 0`, line feed
 --   SlotsPinned      each slot has its line, one behind the other
 --   OutputPinned     of the output: the three examples, of which the first has no bytes; a draw prints its first line and the lines of its
@@ -31,19 +31,23 @@ text52 =
     100 ∷ 114 ∷ 97 ∷ 119 ∷ 32 ∷ 51 ∷ 32 ∷ 49 ∷ 32 ∷ 50 ∷ 32 ∷ 49 ∷ 10
     ∷ 49 ∷ 32 ∷ 51 ∷ 48 ∷ 57 ∷ 32 ∷ 101 ∷ 97 ∷ 114 ∷ 108 ∷ 121 ∷ 10 ∷ []
 
--- The last word that there is, which leaves the first records in their slots, stands there three times.
+-- The first word, the last that there is, leaves the first records in their slots; word 1 shuffles the slots 0, 1, 2 to 1, 2, 0; the third is not
+-- used.
 abbrev pub sheet64 : List ℕ
 sheet64 =
     3 ∷ 0 ∷ 0 ∷ 0 ∷ 24 ∷ 0 ∷ 0 ∷ 0 ∷ 4 ∷ 0 ∷ 0 ∷ 0 ∷ 48 ∷ 0 ∷ 0 ∷ 0 ∷ 3 ∷ 0 ∷ 0 ∷ 0 ∷ 2 ∷ 0 ∷ 0 ∷ 0
-    ∷ replicate 24 255
+    ∷ replicate 8 255
+    ++ 1
+    ∷ replicate 7 0
+    ++ replicate 8 255
     ++ 255 ∷ 255 ∷ 255 ∷ 255 ∷ 0 ∷ 0 ∷ 0 ∷ 0 ∷ 0 ∷ 202 ∷ 154 ∷ 59 ∷ 7 ∷ 0 ∷ 0 ∷ 0 ∷ []
 
 abbrev pub text64 : List ℕ
 text64 =
-    100 ∷ 114 ∷ 97 ∷ 119 ∷ 32 ∷ 52 ∷ 32 ∷ 51 ∷ 32 ∷ 49 ∷ 32 ∷ 48 ∷ 10
-    ∷ 49 ∷ 32 ∷ 52 ∷ 50 ∷ 57 ∷ 52 ∷ 57 ∷ 54 ∷ 55 ∷ 50 ∷ 57 ∷ 53 ∷ 32 ∷ 101 ∷ 97 ∷ 114 ∷ 108 ∷ 121 ∷ 10
-    ∷ 50 ∷ 32 ∷ 48 ∷ 32 ∷ 101 ∷ 97 ∷ 114 ∷ 108 ∷ 121 ∷ 10
-    ∷ 51 ∷ 32 ∷ 49 ∷ 48 ∷ 48 ∷ 48 ∷ 48 ∷ 48 ∷ 48 ∷ 48 ∷ 48 ∷ 48 ∷ 32 ∷ 108 ∷ 97 ∷ 116 ∷ 101 ∷ 10 ∷ []
+    100 ∷ 114 ∷ 97 ∷ 119 ∷ 32 ∷ 52 ∷ 32 ∷ 51 ∷ 32 ∷ 50 ∷ 32 ∷ 48 ∷ 10
+    ∷ 49 ∷ 32 ∷ 48 ∷ 32 ∷ 101 ∷ 97 ∷ 114 ∷ 108 ∷ 121 ∷ 10
+    ∷ 50 ∷ 32 ∷ 49 ∷ 48 ∷ 48 ∷ 48 ∷ 48 ∷ 48 ∷ 48 ∷ 48 ∷ 48 ∷ 48 ∷ 32 ∷ 101 ∷ 97 ∷ 114 ∷ 108 ∷ 121 ∷ 10
+    ∷ 51 ∷ 32 ∷ 52 ∷ 50 ∷ 57 ∷ 52 ∷ 57 ∷ 54 ∷ 55 ∷ 50 ∷ 57 ∷ 53 ∷ 32 ∷ 108 ∷ 97 ∷ 116 ∷ 101 ∷ 10 ∷ []
 
 abbrev pub text0 : List ℕ
 text0 = 114 ∷ 101 ∷ 102 ∷ 117 ∷ 115 ∷ 101 ∷ 100 ∷ 32 ∷ 49 ∷ 32 ∷ 48 ∷ 10 ∷ []

@@ -28,7 +28,8 @@ use Rattle.promises.specs.Behind.{Op, Numbers, FullRun, Gives, Demand1, 
 use Rattle.promises.proofs.Batch.{allowed-batch}
 use Rattle.promises.proofs.Calls.{one-number}
 use Rattle.promises.proofs.Method.{accepts-iff}
-use Rattle.promises.proofs.Refusing.{truth, as-refused, allowed-cons, named-nil, named-no, named-bounds, numbered-nil, numbered-no, numbered-bounds, settle}
+use Rattle.rules.proofs.Facts.{truth}
+use Rattle.promises.proofs.Refusing.{as-refused, allowed-cons, named-nil, named-no, named-bounds, numbered-nil, numbered-no, numbered-bounds, settle}
 
 pos-no-zero : (bs : List ℕ) → 0 < product bs → hasZero bs ≡ false
 unfolding hasZero product

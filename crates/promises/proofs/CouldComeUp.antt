@@ -1,7 +1,8 @@
--- Every record can come up in a sample. Let the roll of each later place be the place itself, which is k or more, so that no slot gets its
--- record; and let the roll of place i be 0. If i is k or more, slot 0 gets record i and no later record takes it; else slot i keeps record i.
--- These rolls are below their bounds, so each batch has a run of words behind its part of them; the first word of each run is taken. Over
--- every width. Assumes nothing.
+-- Every record can come up in a sample, in every slot. Let the roll of each later place be the place itself, which is k or more, so that no slot
+-- gets its record; and let the roll of place i be 0. If i is k or more, slot 0 gets record i and no later record takes it; else slot i keeps
+-- record i. Then let the final shuffle exchange that slot with the wanted one, by the rolls behind that order of the slots. All these rolls are
+-- below their bounds, so each batch has a run of words behind its part of them; the first word of each run is taken. Over every width. Assumes
+-- nothing.
 --
 --   chosen n k i                      the rolls
 --   chosen-length, chosen-here,       how many, that of place i, and those of the other places
@@ -9,11 +10,12 @@
 --   chosen-range                      they are in range of the bounds k + 1, .., n
 --   kept, taken                       a slot that no roll names, and one that a single roll names
 --   chosen-slot                       the slot in which the reservoir with these rolls holds record i
---   drawn, held                       a sample whose words suffice is not refused, and holds what the reservoir with its rolls holds
---   comes-up                          the words, and the slot
+--   drawn, held                       a sample whose words suffice is not refused, and holds what its rolls give
+--   brings k a b                      the rolls of a final shuffle that exchanges slots a and b
+--   comes-up                          the words
 use mathlib.Core.Path.{_≡_, refl, sym, ap, _∙_, subst}
 use mathlib.Core.Logic.{_≢_, ⊎-elim}
-use mathlib.Core.List.{List, [], _∷_}
+use mathlib.Core.List.{List, [], _∷_, _++_}
 use Prim.Native.Nat.{ℕ, _+_, _-_, _^_, _<_, _≤_, zero-le}
 use native.Mathlib.Decide.{ℕ-discrete, decLt}
 use native.Mathlib.Omega.{arith}
@@ -22,17 +24,25 @@ use lib.ListN.{length, take, drop, set, getD, length-set, length-drop, List·get
 use lib.Seq.{getD-drop, getD-set-same, getD-set-other}
 use borrow.Author.Tests.{le-ltb}
 use Rattle.rules.specs.Limits.{maxRecords}
+use Rattle.rules.specs.Order.{rollsInto, Only}
 use Rattle.rules.specs.Pinned.{Nowhere, ReservoirPinned}
 use Rattle.rules.specs.Plan.{PlanOf, joined}
 use Rattle.rules.specs.Reservoir.{countup, reservoir}
 use Rattle.rules.specs.Rolls.{inRange}
 use Rattle.rules.specs.Run.{Run, ran, short, run, suffices}
+use Rattle.rules.specs.Sample.{sampleBounds, sampleWith}
+use Rattle.rules.specs.Shuffle.{exchange, shuffleWith, shuffleBounds}
 use Rattle.rules.specs.Width.{Width}
+use Rattle.rules.proofs.Counting.{count-exchange}
+use Rattle.rules.proofs.Exchanging.{exchange-last}
+use Rattle.rules.proofs.Orders.{one-series}
 use Rattle.rules.proofs.Pinned.{pinned}
 use Rattle.rules.proofs.PinnedReservoir.{reservoir-pinned}
+use Rattle.rules.proofs.Range.{range-join}
 use Rattle.rules.proofs.Reservoir.{length-sample}
 use Rattle.rules.proofs.Rows.{length-countup, getD-countup}
 use Rattle.rules.proofs.Runs.{Rolled}
+use Rattle.rules.proofs.Samples.{sample-parts, length-drawn, row-distinct, shuffle-places}
 use Rattle.answers.specs.Outcome.{Outcome, decide, noWord}
 use Rattle.draws.specs.Sample.{samplePlan, sampled, sample, seenSample}
 use Rattle.promises.specs.Sample.{Holds, ComesUp}
@@ -131,25 +141,55 @@ module _ (W : Width) (words xs : List ℕ) (k : ℕ) (h : length xs ≤ maxRecor
 
   held : (rs lent : List ℕ) (j : ℕ) → k ≤ length lent → j < k
       → Rolled (W .bits) (samplePlan W (length xs) k) rs (run (W .bits) (samplePlan W (length xs) k) words 0)
-      → Holds (seenSample W words 0 xs k lent) j (getD (reservoir (take k xs) (drop k xs) rs) j 0)
+      → Holds (seenSample W words 0 xs k lent) j (getD (sampleWith k rs xs) j 0)
   held rs lent j room within (t, e) =
-      let slots : List ℕ = reservoir (take k xs) (drop k xs) rs in
-      rw (drawn (length lent) room t, e) (refl, List·getD-append slots (drop (length slots) lent) 0 j (rw (length-sample xs rs k l) within))
+      let slots : List ℕ = sampleWith k rs xs in
+      rw (drawn (length lent) room t, e) (refl, List·getD-append slots (drop (length slots) lent) 0 j (rw (length-drawn k rs xs l) within))
 
-pub comes-up : (W : Width) (n k i : ℕ) → n ≤ maxRecords → 1 ≤ k → k ≤ n → i < n
-    → PlanOf (2 ^ W .bits) (countup (n - k) (k + 1)) (samplePlan W n k) → ComesUp W (seenSample W) n k i
-comes-up W n k i h p l b good =
+-- ---- the slot in the end
+
+-- the rolls that exchange two of k slots and leave the others
+abbrev swapped : ℕ → ℕ → ℕ → List ℕ
+swapped k a b = exchange (countup k 0) a b
+
+brings : ℕ → ℕ → ℕ → List ℕ
+brings k a b = rollsInto k (countup k 0) (swapped k a b)
+
+module _ (k a b : ℕ) (ha : a < k) (hb : b < k) where
+  row : Only k (countup k 0) (swapped k a b) (brings k a b)
+  unfolding brings
+  row =
+      let n : length (countup k 0) ≡ k = length-countup k 0 in
+      rw n at (one-series (countup k 0) (swapped k a b) (row-distinct k) (λ x. count-exchange x (countup k 0) a b (rw n ha) (rw n hb)))
+
+  brings-range : T (inRange (shuffleBounds k) (brings k a b))
+  brings-range = row .in-range
+
+  -- what slot a holds is then in slot b
+  brings-there : (slots : List ℕ) → length slots ≡ k → getD (shuffleWith k (brings k a b) slots) b 0 ≡ getD slots a 0
+  brings-there slots n =
+      (rw n at (shuffle-places slots (brings k a b) b (rw n brings-range) (rw n hb)))
+      ∙ ap (λ (l : List ℕ). getD slots (getD l b 0) 0) (row .gives)
+      ∙ ap (λ (j : ℕ). getD slots j 0) (exchange-last (countup k 0) a b (rw length-countup hb) ∙ getD-countup k 0 a ha ∙ omega arith)
+
+pub comes-up : (W : Width) (n k i slot : ℕ) → n ≤ maxRecords → k ≤ n → i < n → slot < k
+    → PlanOf (2 ^ W .bits) (sampleBounds n k) (samplePlan W n k) → ComesUp W (seenSample W) n k i slot
+comes-up W n k i slot h l b within good =
+    let p : 1 ≤ k = omega arith in
     let plan : List (List ℕ) = samplePlan W n k in
+    let (j, below, takes) = chosen-slot n k i p l b in
     let js : List ℕ = chosen n k i in
-    let words : List ℕ = firsts (W .bits) plan js in
-    let range : T (inRange (joined plan) js) = rw (good .same) (chosen-range n k i) in
-    let (j, within, takes) = chosen-slot n k i p l b in
+    let rs : List ℕ = js ++ brings k j slot in
+    let words : List ℕ = firsts (W .bits) plan rs in
+    let range : T (inRange (joined plan) rs) = rw (good .same) (range-join (countup (n - k) (k + 1)) (shuffleBounds k) js (brings k j slot) (chosen-range n k i) (brings-range k j slot below within)) in
+    let there : (xs : List ℕ) → length xs ≡ n → getD (sampleWith k rs xs) slot 0 ≡ getD xs i 0
+    = λ xs e.
+    ap (λ (l : List ℕ). getD l slot 0) (sample-parts k xs js (brings k j slot) (omega (arith, chosen-length n k i)))
+    ∙ brings-there k j slot below within (reservoir (take k xs) (drop k xs) js) (length-sample xs js k (omega arith)) ∙ takes xs e in
     record {
       words = words;
-      slot = j;
-      one-each = firsts-count (W .bits) plan js;
-      callable = firsts-below (W .bits) plan js (good .rollable) range;
-      within = within;
-      holds = λ xs lent e room. subst (Holds (seenSample W words 0 xs k lent) j) (takes xs e)
-          (held W words xs k (rw e h) p (rw e l) js lent j room within (rw e (firsts-give (W .bits) plan js (good .rollable) range)));
+      one-each = firsts-count (W .bits) plan rs;
+      callable = firsts-below (W .bits) plan rs (good .rollable) range;
+      holds = λ xs lent e room. subst (Holds (seenSample W words 0 xs k lent) slot) (there xs e)
+          (held W words xs k (rw e h) p (rw e l) rs lent slot room within (rw e (firsts-give (W .bits) plan rs (good .rollable) range)));
     }

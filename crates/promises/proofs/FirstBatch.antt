@@ -39,7 +39,8 @@ use Rattle.promises.specs.Shuffle.{Op, MovesNothing, FirstBatchOnly}
 use Rattle.promises.proofs.Calls.{one-number}
 use Rattle.promises.proofs.Demand3.{produces, same-at, demand3}
 use Rattle.promises.proofs.Firsts.{firsts, firsts-count, firsts-in, firsts-below}
-use Rattle.promises.proofs.Refusing.{truth, beside-refused, named-no, named-words}
+use Rattle.rules.proofs.Facts.{truth}
+use Rattle.promises.proofs.Refusing.{beside-refused, named-no, named-words}
 use Rattle.promises.proofs.Shuffle.{plan-fits, demand1}
 
 -- ---- rolls of 0, and then rolls that exchange each record with itself

@@ -3,7 +3,8 @@
 --   accepts-iff                  a word is accepted with these rolls exactly where it gives them
 --   Ran, RanAs, follows-run    the run of a plan follows the method
 --   RunBy, run-follows         and what follows the method is that run
---   by-method, rolled-count    so what is read off the run is what the method gives; as many rolls as bounds
+--   by-method                  so what is read off the run is what the method gives
+--   rolled-range, rolled-count    rolls in range, and as many as bounds
 --   suffice, one-outcome       number 10 applies exactly where the method gives nothing; and it gives one outcome
 --   same-outcome, same-seen    two that go by the method have the same words and rolls, and give the same
 use mathlib.Core.Path.{_≡_, refl, sym, ap, ap₂, _∙_, subst}
@@ -17,8 +18,8 @@ use lib.Arith.{digits-div, digits-mod}
 use lib.ListN.{length, take, drop, getD, length-drop, take-append-drop}
 use lib.Seq.{getD-drop, take-at, drop-at}
 use borrow.Author.Tests.{leb-true, leb-false, le-leb, lt-leb}
-use Rattle.rules.proofs.Facts.{clash}
-use Rattle.rules.specs.Rolls.{rolls, rest, product, value, threshold, accepted}
+use Rattle.rules.proofs.Facts.{clash, truth}
+use Rattle.rules.specs.Rolls.{rolls, rest, product, value, threshold, accepted, inRange}
 use Rattle.rules.proofs.Rolls.{key-law, rest-below, length-rolls, rolls-in-range, value-one}
 use lib.Dec.{T}
 use borrow.Author.Tests.{ltb-false}
@@ -34,7 +35,7 @@ use Rattle.rules.specs.Order.{AllBelow}
 use Rattle.rules.specs.Plan.{RollablePlan}
 use Rattle.promises.specs.Demand1.{Callable}
 use Rattle.promises.specs.Demand2.{Allowed, Unfolded, Accepts, Rejects, First, Follows, Lemire, ByMethod, Suffice, OneOutcome}
-use Rattle.promises.proofs.Refusing.{truth, allowed-cons}
+use Rattle.promises.proofs.Refusing.{allowed-cons}
 
 -- ---- one word
 
@@ -232,8 +233,11 @@ module _ (L : ℕ) (plan : List (List ℕ)) (words : List ℕ) (start : ℕ) (a 
         go (ran ts) t f x = record { rolls = rollsOf L plan ts; follows = f .follows; used = f .used; reading = x }
         go (short k) t f x = absurd t
 
+    pub rolled-range : (bs : List ℕ) → joined plan ≡ bs → T (inRange bs (rollsOf L plan ts))
+    rolled-range bs e = rw e at (rolled-in-range L words w plan start 0 g enough)
+
     pub rolled-count : (bs : List ℕ) → joined plan ≡ bs → length (rollsOf L plan ts) ≡ length bs
-    rolled-count bs e = length-in-range (joined plan) (rollsOf L plan ts) (truth _ (rolled-in-range L words w plan start 0 g enough)) ∙ ap length e
+    rolled-count bs e = length-in-range bs (rollsOf L plan ts) (truth _ (rolled-range bs e))
 
 -- ---- one outcome
 

@@ -1,3 +1,4 @@
+use Rattle.rules.proofs.Facts.{truth}
 -- The runs of words behind an order, as the two ways back name them. An order of different records is an order of their places: a shuffle
 -- moves records as it moves their places, so the rolls behind the places are the rolls behind the records. Assumes nothing.
 --
@@ -37,7 +38,6 @@ use Rattle.promises.specs.Behind.{FullRun}
 use Rattle.promises.specs.Demand3.{Paired, places, runsNamed, InRun}
 use Rattle.promises.proofs.Behind.{run-named, run-full}
 use Rattle.promises.proofs.Order.{order-done}
-use Rattle.promises.proofs.Refusing.{truth}
 
 -- ---- records read by their places
 

@@ -23,7 +23,8 @@ use Rattle.answers.proofs.Deciding.{decide-past, decide-none, in-count}
 use Rattle.orders.specs.Order.{orderRefusals, rollsBehind, seenOrder}
 use Rattle.promises.specs.Demand1.{firstOf}
 use Rattle.promises.specs.Order.{Op, Numbers, Demand1, Demand2, Settled, StandIns, Promise}
-use Rattle.promises.proofs.Refusing.{truth, beside-refused, allowed-cons, named-nil, named-no, numbered-nil, numbered-no, settle}
+use Rattle.rules.proofs.Facts.{truth}
+use Rattle.promises.proofs.Refusing.{beside-refused, allowed-cons, named-nil, named-no, numbered-nil, numbered-no, settle}
 use Rattle.promises.proofs.Shuffle.{few-records}
 
 pub order-done : (ys : List ℕ) (room : ℕ) → length ys ≤ maxRecords → length ys - 1 ≤ room → T (isOrder ys)

@@ -1,6 +1,5 @@
 -- The first refusal of a list, over every operation. Assumes nothing.
 --
---   truth                       a test that holds is true
 --   Named, named-nil, named-no, named-word, named-words, named-bounds    no number but 10 names a batch
 --   Ten, ten-no, ten-word, ten-words, names-batch    number 10 names the batch at which the run ended
 --   as-refused                  a refusal is the first one, alone, whatever an operation's answer looks like
@@ -29,10 +28,6 @@ use Rattle.answers.specs.Outcome.{done, no, noWord, ofBounds, ofWords, shown, s
 use Rattle.answers.specs.declared.answer.Answer.{Answer}
 use Rattle.promises.specs.Demand1.{firstOf, AsRefused, numbersOf, Rising, Lowest, FirstIsLowest}
 use Rattle.promises.specs.Demand2.{Allowed}
-
-pub truth : (b : Bool) → T b → b ≡ true
-truth true t = refl
-truth false t = absurd t
 
 module _ (r : Refusal) (rs : List Refusal) where
   pub first-here : r .applies ≡ true → firstOf (r ∷ rs) ≡ r

@@ -15,6 +15,8 @@ use Rattle.rules.specs.Cut.{cut, cutFrom}
 use Rattle.rules.specs.Reservoir.{countup, reservoir}
 use Rattle.rules.specs.Rolls.{product, rolls, rest}
 use Rattle.rules.specs.Run.{find, runFrom, rollsOf, next, rejected}
+use Rattle.rules.specs.Sample.{sampleWith}
+use Rattle.rules.specs.Shuffle.{shufflePlanFrom, shuffleWith}
 use Rattle.rules.specs.Width.{Width, w64}
 use Rattle.answers.specs.Outcome.{Refusal, no, decide}
 use Rattle.areas.specs.Area.{little, entries, bytesOf, area}
@@ -197,5 +199,5 @@ read-again W s words records lent b z room =
     rw (front, back, k, w) (again W s lent b (first-two _ _ _ a) (omega (arith, room, n, m)))
 
 pub round-trip : RoundTrip w64
-unfolding table runSheet sample decide find runFrom rollsOf next rejected rolls rest product cut cutFrom countup reservoir little entries bytesOf area
+unfolding table runSheet sample sampleWith decide find runFrom rollsOf next rejected rolls rest product cut cutFrom countup reservoir shufflePlanFrom shuffleWith little entries bytesOf area
 round-trip = record { written-back = written-back w64; read-again = read-again w64; examples = tt }

@@ -3,12 +3,13 @@
 --   plan-fits    the batches of a sample can be rolled
 --   promise      the promise, at 64 bits
 use mathlib.Core.Path.{_≡_, refl, sym, ap, _∙_}
+use mathlib.Core.Bool.{false}
 use mathlib.Core.List.{List, [], _∷_, _++_}
 use Prim.Native.Nat.{ℕ, _+_, _-_, _^_, _≤_}
 use native.Mathlib.Nat.{le-refl, le-of-lt, le-trans}
 use native.Mathlib.Omega.{arith}
-use lib.Dec.{ltb, lit<}
-use lib.ListN.{length, take, drop, getD}
+use lib.Dec.{T, ltb, lit<}
+use lib.ListN.{length, drop, getD}
 use borrow.Author.Tests.{ltb-false}
 use Rattle.rules.specs.Cut.{cut, cutFrom}
 use Rattle.rules.specs.Limits.{maxRecords}
@@ -16,17 +17,21 @@ use Rattle.rules.specs.Plan.{PlanOf}
 use Rattle.rules.specs.Reservoir.{countup, reservoir}
 use Rattle.rules.specs.Rolls.{rolls, rest, product}
 use Rattle.rules.specs.Run.{Run, find, run, runFrom, trace, rollsOf, next, rejected}
-use Rattle.rules.specs.Width.{Width, w64}
-use Rattle.rules.proofs.CutPlans.{sample-plan}
+use Rattle.rules.specs.Sample.{sampleBounds, sampleWith}
+use Rattle.rules.specs.Shuffle.{exchange, shuffleWith, countdown, shufflePlanFrom}
+use Rattle.rules.specs.Width.{Width, size64, w64}
 use Rattle.rules.proofs.Facts.{or-right}
-use Rattle.rules.proofs.Reservoir.{length-sample}
+use Rattle.rules.proofs.PinnedCut.{cut-pinned}
+use Rattle.rules.proofs.Samples.{row-distinct, length-drawn, sample-plan}
+use Rattle.rules.proofs.ShufflePlans.{sizes-more}
 use Rattle.rules.proofs.Widths.{GoodWidth, good64}
-use Rattle.answers.specs.Outcome.{decide, shown}
+use Rattle.answers.specs.Outcome.{decide, outside, shown}
 use Rattle.answers.specs.declared.answer.Answer.{Answer}
 use Rattle.draws.specs.Sample.{samplePlan, sampleRefusals, sample, seenSample}
 use Rattle.promises.specs.Demand1.{Callable, firstOf}
 use Rattle.promises.specs.Demand2.{Allowed, ByMethod}
-use Rattle.promises.specs.Sample.{Op, Numbers, Demand1, Demand2, Bounds, Settled, StandIns, CouldComeUp, Promise, BatchNamed}
+use Rattle.promises.specs.Examples.{all}
+use Rattle.promises.specs.Sample.{Op, Numbers, Demand1, Demand2, Bounds, Batches, Settled, StandIns, CouldComeUp, NoOwnSlot, table, Promise, BatchNamed}
 use Rattle.promises.proofs.Calls.{below-nil, word-0, word-half, words-01, words-11}
 use Rattle.promises.proofs.CouldComeUp.{comes-up}
 use Rattle.promises.proofs.Method.{by-method, same-seen}
@@ -38,10 +43,17 @@ numbers : (W : Width) → Numbers W
 numbers W words start n k room = ten-last (run (W .bits) (samplePlan W n k) words start) (2 ∷ 3 ∷ 6 ∷ 9 ∷ [])
 
 bounds : (W : Width) → GoodWidth W → Bounds W
-bounds W g n k h = sample-plan (W .limit) (W .limit) (le-refl (W .limit)) n k (le-trans h (g .records))
+bounds W g n k h l = sample-plan (W .size) (W .limit) (W .limit) maxRecords (le-refl (W .limit)) (g .sizes) n k (le-trans h (g .records)) l
 
-pub plan-fits : (W : Width) → GoodWidth W → (n k : ℕ) → n ≤ maxRecords → PlanOf (2 ^ W .bits) (countup (n - k) (k + 1)) (samplePlan W n k)
-plan-fits W g n k h = sample-plan (W .limit) (2 ^ W .bits) (le-of-lt (g .fits)) n k (le-trans h (le-trans (g .records) (le-of-lt (g .fits))))
+batches : (W : Width) (n k : ℕ) → Batches W n k
+batches W n k =
+    let bs : List ℕ = countup (n - k) (k + 1) in
+    record { reservoir = cut (W .limit) bs; cut = cut-pinned .holds (W .limit) bs; shuffled = refl }
+
+pub plan-fits : (W : Width) → GoodWidth W → (n k : ℕ) → n ≤ maxRecords → k ≤ n → PlanOf (2 ^ W .bits) (sampleBounds n k) (samplePlan W n k)
+plan-fits W g n k h l =
+    sample-plan (W .size) (W .limit) (2 ^ W .bits) maxRecords (le-of-lt (g .fits)) (sizes-more (le-of-lt (g .fits)) (g .sizes)) n k
+    (le-trans h (le-trans (g .records) (le-of-lt (g .fits)))) (le-trans l h)
 
 demand1 : (W : Width) → Demand1 W (seenSample W)
 unfolding sample
@@ -56,6 +68,10 @@ batch-named W words start xs k lent w =
     (λ (x : Answer × List ℕ). x .0 .batch) (λ n b. refl) (demand1 W words start xs k lent w) r
     (ten-no r 2 _ _ (differ tt) (ten-no r 3 _ _ (differ tt) (ten-no r 6 _ _ (differ tt) (ten-words (W .bits) (samplePlan W (length xs) k) words start))))
 
+-- a k that number 3 lets pass
+small-sample : (n k : ℕ) → outside 1 n k ≡ false → k ≤ n
+small-sample n k e = ltb-false n k (or-right (ltb k 1) (ltb n k) e)
+
 module _ (W : Width) (g : GoodWidth W) where
   demand2 : Demand2 W (seenSample W)
   unfolding sample
@@ -64,19 +80,22 @@ module _ (W : Width) (g : GoodWidth W) where
       let (size, c) = allowed-cons _ _ b in
       let (room, d) = allowed-cons _ _ c in
       let plan : List (List ℕ) = samplePlan W (length xs) k in
-      let good = plan-fits W g (length xs) k (few-records (length xs) count) in
+      let fits : k ≤ length xs = small-sample (length xs) k size in
+      let good = plan-fits W g (length xs) k (few-records (length xs) count) fits in
       let rs : List ℕ = rollsOf (W .bits) plan (trace (run (W .bits) plan words start)) in
-      let n = length-sample xs rs k (ltb-false (length xs) k (or-right (ltb k 1) (ltb (length xs) k) size)) in
+      let n = length-drawn k rs xs fits in
       rw (allowed-done _ _ a) (record { none = (refl, refl); method = by-method (W .bits) plan words start d (good .rollable) w _ (rw n refl) })
 
   -- two that go by the method on one call
   same : (words : List ℕ) (start : ℕ) (xs : List ℕ) (k : ℕ) (lent : List ℕ) → Callable (W .bits) words
       → Allowed (sampleRefusals W words start (length xs) k (length lent)) → (x y : Answer × List ℕ)
-      → ByMethod (W .bits) (samplePlan W (length xs) k) words start (λ rs. reservoir (take k xs) (drop k xs) rs ++ drop k lent) x
-      → ByMethod (W .bits) (samplePlan W (length xs) k) words start (λ rs. reservoir (take k xs) (drop k xs) rs ++ drop k lent) y → x ≡ y
+      → ByMethod (W .bits) (samplePlan W (length xs) k) words start (λ rs. sampleWith k rs xs ++ drop k lent) x
+      → ByMethod (W .bits) (samplePlan W (length xs) k) words start (λ rs. sampleWith k rs xs ++ drop k lent) y → x ≡ y
   same words start xs k lent w a =
-      same-seen (W .bits) (samplePlan W (length xs) k) words (plan-fits W g (length xs) k (few-records (length xs) (allowed-cons _ _ a .0)) .rollable) w start
-      (λ rs. reservoir (take k xs) (drop k xs) rs ++ drop k lent)
+      let (count, b) = allowed-cons _ _ a in
+      let good = plan-fits W g (length xs) k (few-records (length xs) count) (small-sample (length xs) k (allowed-cons _ _ b .0)) in
+      same-seen (W .bits) (samplePlan W (length xs) k) words (good .rollable) w start
+      (λ rs. sampleWith k rs xs ++ drop k lent)
 
   settled : Settled W
   settled a b a1 a2 b1 b2 words start xs k lent w =
@@ -101,7 +120,7 @@ abbrev front : Answer × List ℕ → ℕ
 front x = getD (x .1) 0 0
 
 stand-ins : StandIns w64
-unfolding firstOf product rest rolls find runFrom rollsOf next rejected decide sample cut cutFrom countup reservoir
+unfolding firstOf product rest rolls find runFrom rollsOf next rejected decide sample sampleWith cut cutFrom countup reservoir size64 shufflePlanFrom countdown shuffleWith exchange
 stand-ins = record {
   refuses = λ op r d. r [] 0 (7 ∷ []) 1 (0 ∷ []) below-nil (d [] 0 (7 ∷ []) 1 (0 ∷ []) below-nil refl .none .0);
   -- one of two records: word 0 takes the second, and word 2^63 the first
@@ -120,10 +139,23 @@ stand-ins = record {
       ∙ sym (f (1 ∷ 1 ∷ []) 0 three-records 1 (0 ∷ []) (d (1 ∷ 1 ∷ []) 0 three-records 1 (0 ∷ []) words-11 refl .none .0)) in
       let z : _≡_ {A = ℕ} 1 0 = sym (ap (λ (x : Answer × List ℕ). x .0 .rejected) some) ∙ same ∙ ap (λ (x : Answer × List ℕ). x .0 .rejected) none in
       omega arith;
+  -- both of two records: word 0 puts the second in slot 0
+  tied = λ op t d.
+      let e = agrees w64 good64 op d (0 ∷ []) 0 two-records 2 (0 ∷ 0 ∷ []) word-0 refl in
+      let z : _≡_ {A = ℕ} 0 1 = t (0 ∷ []) 0 two-records 2 (0 ∷ 0 ∷ []) (d (0 ∷ []) 0 two-records 2 (0 ∷ 0 ∷ []) word-0 refl .none .0) (row-distinct 2) 1 0 (omega arith) (omega arith) (ap front e) in
+      omega arith;
 }
 
+examples : T (all table)
+unfolding table product rest rolls find runFrom rollsOf next rejected decide sample sampleWith cut cutFrom countup reservoir size64 shufflePlanFrom countdown shuffleWith exchange
+examples = tt
+
 could-come-up : (W : Width) → GoodWidth W → CouldComeUp W (seenSample W)
-could-come-up W g n k i h p l b = comes-up W n k i h p l b (plan-fits W g n k h)
+could-come-up W g n k i slot h l b s = comes-up W n k i slot h l b s (plan-fits W g n k h l)
+
+no-own-slot : (W : Width) → GoodWidth W → NoOwnSlot W (seenSample W)
+no-own-slot W g n k i h two l b =
+    (could-come-up W g n k i 0 h l (omega arith) (omega arith), (1, differ tt, could-come-up W g n k i 1 h l (omega arith) (omega arith)))
 
 pub promise : Promise w64
 promise = record {
@@ -132,7 +164,10 @@ promise = record {
   batch = batch-named w64;
   demand2 = demand2 w64 good64;
   bounds = bounds w64 good64;
+  batches = batches w64;
   settled = settled w64 good64;
   stand-ins = stand-ins;
   could-come-up = could-come-up w64 good64;
+  no-own-slot = no-own-slot w64 good64;
+  examples = examples;
 }

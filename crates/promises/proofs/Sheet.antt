@@ -2,7 +2,7 @@
 --
 --   fits                                      the words of a sheet are below 2^64 and its records below 2^32
 --   ten-or-none                               past the third number nothing is given, or 10
---   few, size, words-left, rollable, method, roll-count    what is known of a sheet whose draw nothing refuses
+--   few, size, words-left, rollable, method, roll-range    what is known of a sheet whose draw nothing refuses
 --   none-refused                              nothing refuses where no number is given
 --   promise                                   the promise, at 64 bits
 use mathlib.Core.Path.{_≡_, refl, sym, ap, subst, _∙_}
@@ -12,18 +12,20 @@ use mathlib.Core.List.{List, [], _∷_, _++_}
 use Prim.Native.Nat.{ℕ, zero, suc, suc-le-suc, zero-le, _+_, _-_, _^_, _<_, _≤_}
 use native.Mathlib.Nat.{pow-succ'}
 use native.Mathlib.Omega.{arith}
-use lib.Dec.{ltb, lit≤, lit<}
+use lib.Dec.{T, ltb, lit≤, lit<}
 use lib.ListN.{length, take, drop}
 use borrow.Author.Tests.{le-ltb, not-false}
 use Rattle.rules.specs.Limits.{maxRecords}
 use Rattle.rules.specs.Order.{AllBelow}
 use Rattle.rules.specs.Plan.{RollablePlan}
-use Rattle.rules.specs.Reservoir.{countup, reservoir}
+use Rattle.rules.specs.Reservoir.{countup}
+use Rattle.rules.specs.Rolls.{inRange}
 use Rattle.rules.specs.Cut.{cut}
 use Rattle.rules.specs.Run.{Run, ran, short, run, runFrom, trace, rollsOf, next, rejected}
+use Rattle.rules.specs.Sample.{sampleBounds, sampleWith}
+use Rattle.rules.specs.Shuffle.{shufflePlanFrom}
 use Rattle.rules.specs.Width.{Width, w64}
-use Rattle.rules.proofs.Reservoir.{length-sample}
-use Rattle.rules.proofs.Rows.{length-countup}
+use Rattle.rules.proofs.Samples.{length-drawn}
 use Rattle.rules.proofs.Widths.{GoodWidth, good64}
 use Rattle.answers.specs.Outcome.{Outcome, Refusal, no, noWord, ofWords, left}
 use Rattle.answers.specs.declared.answer.Answer.{Answer}
@@ -40,7 +42,7 @@ use Rattle.promises.specs.Demand1.{firstOf}
 use Rattle.promises.specs.Demand2.{Allowed, Lemire}
 use Rattle.promises.specs.Sheet.{Bytes, CanMeet, Fits, When, Draws, Demand1, Demand2, Settled, StandIns, Promise, BatchNamed}
 use Rattle.promises.proofs.Calls.{below-nil, below-cons, allBelow, all-below}
-use Rattle.promises.proofs.Method.{by-method, rolled-count, same-seen}
+use Rattle.promises.proofs.Method.{by-method, rolled-range, same-seen}
 use Rattle.promises.proofs.Refusing.{Numbered, as-refused, first-past, allowed-cons, allowed-done, named-no, named-word, numbered-no, numbered-word, settle, ten-last, names-batch, ten-no, ten-word}
 use Rattle.promises.proofs.Sample.{plan-fits}
 use Rattle.promises.proofs.Which.{differ, neither, which, none-applies, tested-sound, tested-size, tested-room}
@@ -129,17 +131,16 @@ module _ (g : GoodWidth w64) (s : List ℕ) (other : Refusal)
   words-left = from-zero 64 plan (wordsOf s) (allowed-cons _ _ (allowed-cons _ _ (allowed-cons _ _ a .1) .1) .1)
 
   pub rollable : RollablePlan (2 ^ 64) plan
-  rollable = plan-fits w64 g (numbers s .records) k few .rollable
+  rollable = plan-fits w64 g (numbers s .records) k few (size .1) .rollable
 
   pub method : (b : Bytes s) (Read : List ℕ → Type 0) → let ts = trace (run 64 plan (wordsOf s) 0) in
       Read (rollsOf 64 plan ts) → Lemire 64 plan (wordsOf s) 0 (next 0 ts) (rejected 0 ts) Read
   method b Read x = by-method 64 plan (wordsOf s) 0 words-left rollable (fits s b .0) Read x
 
-  pub roll-count : Bytes s → k + length (rollsOf 64 plan (trace (run 64 plan (wordsOf s) 0))) ≡ numbers s .records
-  roll-count b =
-      let bounds : List ℕ = countup (numbers s .records - k) (k + 1) in
-      let c = rolled-count 64 plan (wordsOf s) 0 words-left rollable (fits s b .0) bounds (plan-fits w64 g (numbers s .records) k few .same) in
-      omega (arith, c ∙ length-countup (numbers s .records - k) (k + 1), size .1)
+  pub roll-range : Bytes s → T (inRange (sampleBounds (numbers s .records) k) (rollsOf 64 plan (trace (run 64 plan (wordsOf s) 0))))
+  roll-range b =
+      rolled-range 64 plan (wordsOf s) 0 words-left rollable (fits s b .0) (sampleBounds (numbers s .records) k)
+      (plan-fits w64 g (numbers s .records) k few (size .1) .same)
 
 draws : (s lent : List ℕ) → Allowed (sheetRefusals w64 s (length lent)) → Bytes s → Draws w64 s lent (seenSheet w64 s lent)
 draws s lent a b =
@@ -148,7 +149,7 @@ draws s lent a b =
     let other : Refusal = no 6 (ltb (length lent) k) in
     let ran = sheet-flat w64 s (length lent) ∙ allowed-done (sheetRefusals w64 s (length lent)) (sampled w64 (wordsOf s) 0 xs k) a in
     let plan : List (List ℕ) = samplePlan w64 (numbers s .records) k in
-    let n = length-sample xs (rollsOf 64 plan (trace (run 64 plan (wordsOf s) 0))) k (rw (length-records s) (size good64 s other a .1)) in
+    let n = length-drawn k (rollsOf 64 plan (trace (run 64 plan (wordsOf s) 0))) xs (rw (length-records s) (size good64 s other a .1)) in
     rw (ran, length-records s) (record {
       sample = record { none = (refl, refl); method = method good64 s other a b _ (rw n refl) };
       six = refl;
@@ -172,7 +173,7 @@ settled a b a1 a2 b1 b2 s lent bytes =
     let x = a2 s lent bytes al in
     let y = b2 s lent bytes al in
     let same = same-seen 64 (samplePlan w64 (numbers s .records) k) (wordsOf s) (rollable good64 s (no 6 (ltb (length lent) k)) al) (fits s bytes .0) 0
-    (λ rs. reservoir (take k (recordsOf s)) (drop k (recordsOf s)) rs ++ drop k lent) _ _ (x .sample) (y .sample) in
+    (λ rs. sampleWith k rs (recordsOf s) ++ drop k lent) _ _ (x .sample) (y .sample) in
     let drawn = x .six ∙ ap (λ (z : Answer × List ℕ). drawnBy s (z .0 .next) (z .0 .rejected)) same ∙ sym (y .six) in
     let after = ap (λ (z : Answer × List ℕ). z .1) same in
     λ i. (drawn i, after i))
@@ -187,7 +188,7 @@ unfolding small-sheet allBelow
 small-bytes = all-below 256 small-sheet tt
 
 stand-ins : StandIns w64
-unfolding firstOf runFrom cut countup little entries small-sheet
+unfolding firstOf runFrom cut countup shufflePlanFrom little entries small-sheet
 stand-ins = record {
   refuses = λ op r d. r small-sheet (0 ∷ []) small-bytes (d small-sheet (0 ∷ []) small-bytes refl .sample .none .0);
 }

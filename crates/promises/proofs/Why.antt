@@ -2,35 +2,40 @@
 -- method gives one series of rolls. Assumes nothing.
 --
 --   none-refused                 nothing refuses where no number is given
---   rolled, answered, placed     where nothing refuses: the rolls of the draw, the answer, and that the place is below n
+--   rolled, later, final         the rolls of the draw, those of the reservoir, and where the others put a slot
+--   answered, placed             where nothing refuses: the answer, and that the place is below n
 --   can-meet, demand1, when, demand2, settled, stand-ins    parts of the promise
 use mathlib.Core.Path.{_≡_, refl, sym, ap, subst, _∙_}
-use mathlib.Core.Logic.{_↔_, inl, inr}
+use mathlib.Core.Logic.{_↔_, _⊎_, inl, inr}
 use mathlib.Core.Bool.{false}
 use mathlib.Core.List.{List, [], _∷_}
-use Prim.Native.Nat.{ℕ, _^_, _<_}
+use Prim.Native.Nat.{ℕ, _+_, _-_, _^_, _<_, _≤_}
 use native.Mathlib.Omega.{arith}
-use lib.Dec.{leb, lit<}
+use lib.Dec.{T, leb, lit<}
+use lib.ListN.{length, take, drop}
 use borrow.Author.Tests.{leb-false, lt-leb}
 use Rattle.rules.specs.Cut.{cut, cutFrom}
 use Rattle.rules.specs.Order.{placeOf}
 use Rattle.rules.specs.Reservoir.{countup}
-use Rattle.rules.specs.Rolls.{rolls, rest, product}
+use Rattle.rules.specs.Rolls.{rolls, rest, product, inRange}
 use Rattle.rules.specs.Run.{Run, Taken, run, runFrom, find, trace, rollsOf, next, rejected}
+use Rattle.rules.specs.Sample.{sampleBounds}
+use Rattle.rules.specs.Shuffle.{shufflePlanFrom, shuffleWith}
 use Rattle.rules.specs.Width.{Width, w64}
 use Rattle.rules.proofs.Widths.{good64}
-use Rattle.answers.specs.Outcome.{Refusal, no, noWord, decide, fromRun}
+use Rattle.answers.specs.Outcome.{Outcome, Refusal, no, noWord, decide, fromRun}
 use Rattle.areas.specs.Area.{little, entries, bytesOf, area}
 use Rattle.draws.specs.Sample.{samplePlan}
 use Rattle.sheet.specs.Sheet.{Numbers, numbers, wordsOf}
 use Rattle.writer.specs.WriteSheet.{written}
-use Rattle.reasons.specs.Fate.{fateOf}
-use Rattle.reasons.specs.Happened.{Happened, Tells}
+use Rattle.reasons.specs.Fate.{fateOf, finalSlot}
+use Rattle.reasons.specs.Happened.{HeldUntil, Happened, EndsIn, Tells}
 use Rattle.reasons.specs.Why.{whyRefusals, why, told, shownWhy, seenWhy}
 use Rattle.reasons.specs.declared.fate.Fate.{Fate}
 use Rattle.reasons.specs.declared.fate.Fate.the-variants as fate
 use Rattle.reasons.specs.declared.why.Reason.{Reason}
-use Rattle.reasons.proofs.Fates.{fate-happened, fate-only}
+use Rattle.reasons.proofs.Fates.{fate-happened, fate-only, fate-drawn}
+use Rattle.reasons.proofs.Finals.{roll-count, final-ends, final-only}
 use Rattle.reasons.proofs.Pinned.{reasons-pinned}
 use Rattle.promises.specs.Demand1.{firstOf}
 use Rattle.promises.specs.Demand2.{Allowed}
@@ -39,7 +44,7 @@ use Rattle.promises.specs.Why.{Op, CanMeet, When, Explains, Demand1, Dem
 use Rattle.promises.proofs.Calls.{allBelow, all-below}
 use Rattle.promises.proofs.Method.{same-outcome}
 use Rattle.promises.proofs.Refusing.{Numbered, as-refused, allowed-cons, allowed-done, named-no, named-word, numbered-no, numbered-word, settle, ten-last}
-use Rattle.promises.proofs.Sheet.{fits, ten-or-none, rollable, method, roll-count}
+use Rattle.promises.proofs.Sheet.{fits, ten-or-none, size, rollable, method, roll-range}
 use Rattle.promises.proofs.Which.{differ, neither, which, none-applies, tested-sound, tested-size}
 
 -- ---- what refuses
@@ -52,9 +57,10 @@ unfolding why
 demand1 W s place b =
     let plan : List (List ℕ) = samplePlan W (numbers s .records) (numbers s .k) in
     let ts : List Taken = trace (run (W .bits) plan (wordsOf s) 0) in
-    as-refused (shownWhy (numbers s .k) place) (shownWhy (numbers s .k) place) (λ (x : Reason). x .no) (λ n b. refl) (λ n b. refl)
+    let shown : Outcome → Reason = shownWhy (numbers s .records) (numbers s .k) place in
+    as-refused shown shown (λ (x : Reason). x .no) (λ n b. refl) (λ n b. refl)
     (fromRun (W .bits) plan (wordsOf s) 0 (λ js. js))
-    (reasons-pinned .answers .used (next 0 ts) (rejected 0 ts) (fateOf (numbers s .k) (rollsOf (W .bits) plan ts) place) .0)
+    (reasons-pinned .answers .used (next 0 ts) (rejected 0 ts) _ (fateOf (numbers s .k) (take (numbers s .records - numbers s .k) (rollsOf (W .bits) plan ts)) place) .0)
     (whyRefusals W s place) (named-no 1 _ _ (named-no 3 _ _ (named-no 7 _ _ (named-word (run (W .bits) plan (wordsOf s) 0))))) (seenWhy W s place) refl
 
 tested-place : (n place : ℕ) → (leb n place ≡ false) ↔ (place < n)
@@ -95,13 +101,20 @@ module _ (s : List ℕ) where
   abbrev ts : List Taken
   ts = trace (run 64 plan (wordsOf s) 0)
 
+  -- the rolls of the draw: those of the reservoir, and those of the final shuffle
   abbrev pub rolled : List ℕ
   rolled = rollsOf 64 plan ts
 
+  abbrev pub later : List ℕ
+  later = take (n - k) rolled
+
+  abbrev pub final : ℕ → ℕ
+  final = finalSlot k (drop (n - k) rolled)
+
   module _ (place : ℕ) (a : Allowed (whyRefusals w64 s place)) where
-    pub answered : seenWhy w64 s place ≡ told (next 0 ts) (rejected 0 ts) (fateOf k rolled place)
+    pub answered : seenWhy w64 s place ≡ told (next 0 ts) (rejected 0 ts) final (fateOf k later place)
     unfolding why
-    answered = ap (shownWhy k place) (allowed-done (whyRefusals w64 s place) (fromRun 64 plan (wordsOf s) 0 (λ js. js)) a)
+    answered = ap (shownWhy n k place) (allowed-done (whyRefusals w64 s place) (fromRun 64 plan (wordsOf s) 0 (λ js. js)) a)
 
     pub placed : place < n
     placed = leb-false n place (allowed-cons _ _ (allowed-cons _ _ (allowed-cons _ _ a .1) .1) .0)
@@ -110,19 +123,35 @@ module _ (s : List ℕ) where
     other = no 7 (leb n place)
 
     module _ (b : Bytes s) where
+      range : T (inRange (sampleBounds n k) rolled)
+      unfolding other
+      range = roll-range good64 s other a b
+
+      small : k ≤ n
+      unfolding other
+      small = size good64 s other a .1
+
+      -- the place is one of the first k, or has a roll
+      in-reservoir : place < k + length later
+      in-reservoir = omega (arith, placed, small, roll-count n k rolled small range)
+
       explains : Explains w64 s place (seenWhy w64 s place)
       unfolding other
-      explains = rw answered (go (fateOf k rolled place) (fate-happened k rolled place (rw (roll-count good64 s other a b) placed)))
+      explains = rw answered (go (fateOf k later place) (fate-happened k later place in-reservoir) ends)
         where
-          go : (f : Fate) → Happened k rolled place f → Explains w64 s place (told (next 0 ts) (rejected 0 ts) f)
-          go (fate.Stayed slot) h =
-              record { none = (refl, refl); method = method good64 s other a b _ (inl (refl, h, refl, refl, refl)) }
-          go (fate.RolledIn slot) h =
-              record { none = (refl, refl); method = method good64 s other a b _ (inr (inl (refl, h, refl, refl, refl))) }
-          go (fate.Taken slot by step) h =
-              record { none = (refl, refl); method = method good64 s other a b _ (inr (inr (inl (refl, h, refl)))) }
-          go (fate.PassedOver roll) h =
-              record { none = (refl, refl); method = method good64 s other a b _ (inr (inr (inr (refl, h, refl, refl, refl)))) }
+          ends : (slot : ℕ) → (fateOf k later place ≡ fate.Stayed slot) ⊎ (fateOf k later place ≡ fate.RolledIn slot) → EndsIn n k rolled place (final slot)
+          ends slot f = final-ends n k rolled small range place slot (rw (roll-count n k rolled small range) at (fate-drawn k later place slot in-reservoir .0 f))
+
+          go : (f : Fate) → Happened k later place f → ((slot : ℕ) → (f ≡ fate.Stayed slot) ⊎ (f ≡ fate.RolledIn slot) → EndsIn n k rolled place (final slot))
+              → Explains w64 s place (told (next 0 ts) (rejected 0 ts) final f)
+          go (fate.Stayed slot) h e =
+              record { none = (refl, refl); method = method good64 s other a b _ (inl (refl, h, e slot (inl refl), refl, refl, refl)) }
+          go (fate.RolledIn slot) h e =
+              record { none = (refl, refl); method = method good64 s other a b _ (inr (inl (refl, h, e slot (inr refl), refl, refl, refl))) }
+          go (fate.Taken slot by step) h e =
+              record { none = (refl, refl); method = method good64 s other a b _ (inr (inr (inl (refl, h, refl, refl)))) }
+          go (fate.PassedOver roll) h e =
+              record { none = (refl, refl); method = method good64 s other a b _ (inr (inr (inr (refl, h, refl, refl, refl, refl)))) }
 
 pub demand2 : Demand2 w64 (seenWhy w64)
 demand2 s place b a = explains s place a b
@@ -130,43 +159,66 @@ demand2 s place b a = explains s place a b
 -- ---- one answer
 
 same-fields : (r t : Reason) → (r .no ≡ t .no) × (r .next ≡ t .next) × (r .rejected ≡ t .rejected) × (r .batch ≡ t .batch)
-    → (r .reason ≡ t .reason) × (r .slot ≡ t .slot) × (r .«by_place» ≡ t .«by_place») × (r .«by_step» ≡ t .«by_step») × (r .roll ≡ t .roll) → r ≡ t
-same-fields r t (a, b, c, d) (e, f, g, h, j) = λ i. record {
+    → (r .reason ≡ t .reason) × (r .slot ≡ t .slot) × (r .«final_slot» ≡ t .«final_slot») × (r .«by_place» ≡ t .«by_place»)
+    × (r .«by_step» ≡ t .«by_step») × (r .roll ≡ t .roll) → r ≡ t
+same-fields r t (a, b, c, d) (e, f, g, h, j, k) = λ i. record {
   no = a i;
   next = b i;
   rejected = c i;
   batch = d i;
   reason = e i;
   slot = f i;
-  «by_place» = g i;
-  «by_step» = h i;
-  roll = j i;
+  «final_slot» = g i;
+  «by_place» = h i;
+  «by_step» = j i;
+  roll = k i;
 }
 
 -- what tells what happened tells what is computed
-tells-told : (k : ℕ) (js : List ℕ) (p : ℕ) (r : Reason) → (r .no ≡ 0) × (r .batch ≡ 0) → Tells k js p r → r ≡ told (r .next) (r .rejected) (fateOf k js p)
-tells-told k js p r (z, y) t = go t
-  where
-    told-as : (f : Fate) → Happened k js p f → r ≡ told (r .next) (r .rejected) f → r ≡ told (r .next) (r .rejected) (fateOf k js p)
-    told-as f h e = e ∙ ap (told (r .next) (r .rejected)) (fate-only k js p f h)
+module _ (n k : ℕ) (rs : List ℕ) (size : k ≤ n) (t : T (inRange (sampleBounds n k) rs)) (p : ℕ) (h : p < n) (r : Reason) (none : (r .no ≡ 0) × (r .batch ≡ 0)) where
+  abbrev js : List ℕ
+  js = take (n - k) rs
 
-    go : Tells k js p r → r ≡ told (r .next) (r .rejected) (fateOf k js p)
-    go (inl (e, h, a, b, c)) = told-as (fate.Stayed (r .slot)) h (same-fields r _ (z, refl, refl, y) (e, refl, a, b, c))
-    go (inr (inl (e, h, a, b, c))) = told-as (fate.RolledIn (r .slot)) h (same-fields r _ (z, refl, refl, y) (e, refl, a, b, c))
-    go (inr (inr (inl (e, h, c)))) =
-        told-as (fate.Taken (r .slot) (r .«by_place») (r .«by_step»)) h (same-fields r _ (z, refl, refl, y) (e, refl, refl, refl, c))
-    go (inr (inr (inr (e, h, a, b, c)))) = told-as (fate.PassedOver (r .roll)) h (same-fields r _ (z, refl, refl, y) (e, a, b, c, refl))
+  abbrev toldOf : Fate → Reason
+  toldOf = told (r .next) (r .rejected) (finalSlot k (drop (n - k) rs))
+
+  -- a place that held its slot to the end, and ends in a slot
+  ended : (slot : ℕ) → HeldUntil k js slot p (length js) → EndsIn n k rs p (r .«final_slot») → r .«final_slot» ≡ finalSlot k (drop (n - k) rs) slot
+  ended slot u e =
+      let c = roll-count n k rs size t in
+      final-only n k rs size t p slot (r .«final_slot») h (rw c at (u (length js) (omega arith) (omega arith))) e
+
+  tells-told : Tells n k rs p r → r ≡ toldOf (fateOf k js p)
+  tells-told (inl (e, w, f, a, b, c)) =
+      same-fields r (toldOf (fate.Stayed (r .slot))) (none .0, refl, refl, none .1) (e, refl, ended (r .slot) (w .1) f, a, b, c)
+      ∙ ap toldOf (fate-only k js p (fate.Stayed (r .slot)) w)
+  tells-told (inr (inl (e, w, f, a, b, c))) =
+      same-fields r (toldOf (fate.RolledIn (r .slot))) (none .0, refl, refl, none .1) (e, refl, ended (r .slot) (w .1) f, a, b, c)
+      ∙ ap toldOf (fate-only k js p (fate.RolledIn (r .slot)) w)
+  tells-told (inr (inr (inl (e, w, f, c)))) =
+      same-fields r (toldOf (fate.Taken (r .slot) (r .«by_place») (r .«by_step»))) (none .0, refl, refl, none .1) (e, refl, f, refl, refl, c)
+      ∙ ap toldOf (fate-only k js p (fate.Taken (r .slot) (r .«by_place») (r .«by_step»)) w)
+  tells-told (inr (inr (inr (e, w, d, f, a, b)))) =
+      same-fields r (toldOf (fate.PassedOver (r .roll))) (none .0, refl, refl, none .1) (e, d, f, a, b, refl)
+      ∙ ap toldOf (fate-only k js p (fate.PassedOver (r .roll)) w)
+
+-- what explains is what is given
+as-ours : (s : List ℕ) (place : ℕ) → Allowed (whyRefusals w64 s place) → Bytes s → (r : Reason) → Explains w64 s place r → r ≡ seenWhy w64 s place
+as-ours s place a b r x =
+    let third : Refusal = no 7 (leb (n s) place) in
+    let ours = method good64 s third a b (λ rs. rs ≡ rolled s) refl in
+    let (e, f, g) = same-outcome 64 (plan s) (wordsOf s) (rollable good64 s third a) (fits s b .0) 0 _ _ _ _ _ _ (x .method) ours in
+    let same : x .method .rolls ≡ rolled s = g ∙ ours .reading in
+    let tells : Tells (n s) (k s) (rolled s) place r = rw same at (x .method .reading) in
+    tells-told (n s) (k s) (rolled s) (small s place a b) (range s place a b) place (placed s place a) r (x .none) tells
+    ∙ (λ i. told (e i) (f i) (final s) (fateOf (k s) (later s) place)) ∙ sym (answered s place a)
 
 one-answer : (s : List ℕ) (place : ℕ) → Allowed (whyRefusals w64 s place) → Bytes s → (a b : Reason) → Explains w64 s place a → Explains w64 s place b → a ≡ b
-one-answer s place al bytes a b x y =
-    let (e, f, h) = same-outcome 64 (plan s) (wordsOf s) (rollable good64 s (no 7 (leb (n s) place)) al) (fits s bytes .0) 0 _ _ _ _ _ _ (x .method) (y .method) in
-    tells-told (k s) (x .method .rolls) place a (x .none) (x .method .reading)
-    ∙ (λ i. told (e i) (f i) (fateOf (k s) (h i) place))
-    ∙ sym (tells-told (k s) (y .method .rolls) place b (y .none) (y .method .reading))
+one-answer s place al bytes a b x y = as-ours s place al bytes a x ∙ sym (as-ours s place al bytes b y)
 
 pub settled : Settled w64
 settled a b a1 a2 b1 b2 s place bytes =
-    settle (whyRefusals w64 s place) (shownWhy (numbers s .k) place) (λ (x : Reason). x .no) (numbered s place)
+    settle (whyRefusals w64 s place) (shownWhy (numbers s .records) (numbers s .k) place) (λ (x : Reason). x .no) (numbered s place)
     (a s place) (b s place) (a1 s place bytes) (b1 s place bytes) (λ al. one-answer s place al bytes _ _ (a2 s place bytes al) (b2 s place bytes al))
 
 -- ---- stand-ins
@@ -177,14 +229,14 @@ twins word = written (word ∷ []) (7 ∷ 7 ∷ []) 1 1
 
 -- an operation that meets demand 2 gives the reason that is given
 as-given : (op : Op) → Demand2 w64 op → (s : List ℕ) (place : ℕ) → Allowed (whyRefusals w64 s place) → Bytes s → op s place .reason ≡ seenWhy w64 s place .reason
-as-given op d s place a b = ap (λ (r : Reason). r .reason) (one-answer s place a b _ _ (d s place b a) (explains s place a b))
+as-given op d s place a b = ap (λ (r : Reason). r .reason) (as-ours s place a b _ (d s place b a))
 
 twins-bytes : (Bytes (twins 0)) × (Bytes (twins (2 ^ 63)))
 unfolding twins allBelow bytesOf area
 twins-bytes = (all-below 256 (twins 0) tt, all-below 256 (twins (2 ^ 63)) tt)
 
 pub stand-ins : StandIns w64
-unfolding twins why fateOf placeOf firstOf decide runFrom find rollsOf next rejected rolls rest product cut cutFrom countup little entries bytesOf area
+unfolding twins why fateOf placeOf firstOf decide runFrom find rollsOf next rejected rolls rest product cut cutFrom countup shufflePlanFrom shuffleWith little entries bytesOf area
 stand-ins = record {
   refuses = λ op r d. let b = twins-bytes .0 in r (twins 0) 0 b (d (twins 0) 0 b refl .none .0);
   by-record = λ op same d.

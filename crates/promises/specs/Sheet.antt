@@ -20,9 +20,9 @@ use mathlib.Core.Logic.{_↔_, _⊎_, _≢_}
 use mathlib.Core.List.{List, [], _∷_, _++_}
 use Prim.Native.Nat.{ℕ, _^_, _≤_}
 use lib.Dec.{T}
-use lib.ListN.{length, take, drop}
+use lib.ListN.{length, drop}
 use Rattle.rules.specs.Order.{AllBelow}
-use Rattle.rules.specs.Reservoir.{reservoir}
+use Rattle.rules.specs.Sample.{sampleWith}
 use Rattle.rules.specs.Width.{Width}
 use Rattle.answers.specs.declared.answer.Answer.{Answer}
 use Rattle.draws.specs.Sample.{samplePlan}
@@ -65,7 +65,7 @@ Refuses W s lent got = AsRefused (sheetRefusals W s (length lent)) (λ o. (shown
 
 pub record Draws (W : Width) (s lent : List ℕ) (got : Drawn × List ℕ) : Type 0 where
   pub sample : let k : ℕ = numbers s .k in
-      ByMethod (W .bits) (samplePlan W (numbers s .records) k) (wordsOf s) 0 (λ rs. reservoir (take k (recordsOf s)) (drop k (recordsOf s)) rs ++ drop k lent)
+      ByMethod (W .bits) (samplePlan W (numbers s .records) k) (wordsOf s) 0 (λ rs. sampleWith k rs (recordsOf s) ++ drop k lent)
       (answerOf (got .0), got .1)
   pub six : got .0 ≡ drawnBy s (got .0 .next) (got .0 .rejected)
 

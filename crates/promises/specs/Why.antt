@@ -1,5 +1,5 @@
 -- Why a place was drawn or not: demands 1 and 2 of it, that they settle its answer, its stand-ins, and a statement for each further sentence
--- of document 02, M-101: "For a sheet and a record's place, tell the true reason".
+-- of document 02, M-101: "For a sheet and a record's place, tell the true reason". M-102: "M-101's first two reasons add the final slot."
 --
 --   Op                               the operation as its caller observes it: the sheet's bytes, the place
 --   CanMeet W                        the numbers that it can meet, in the order of document 02
@@ -11,11 +11,11 @@
 --   Settled W, StandIns W            as of one batch
 --   AsTheDraw W                      the statement: where the place is below n it is refused as the run of the sheet is, by the same number with the
 --                                    same batch, or uses and rejects the same words
---   DrawnIn answer slot, NotDrawn    the answer says that the place was drawn, into this slot; or that it was not
+--   DrawnIn answer slot, NotDrawn    the answer says that the place was drawn, with this final slot; or that it was not
 --   ThisDraw W s lent                what is said of a sheet that was drawn: some places are drawn by its words; the records drawn are those at these
 --                                    places; and the reasons 1 and 2 are given to these places, 3 and 4 to the others
 --   Takers W s slot p ps             from place p on each place held the slot until the next one took it; the last was rolled in and stayed
---   worked, short k, fields, table   a sheet in which all four reasons occur; one whose words do not suffice; the nine fields of an answer;
+--   worked, short words k, fields, table    a sheet in which all four reasons occur; ones whose words do not suffice; the ten fields of an answer;
 --                                    examples
 --   Promise W                        the promise
 use mathlib.Core.Path.{_≡_}
@@ -56,13 +56,13 @@ When s place number =
     Which 1 3 7 (Sound s) (RightSize (h .records) (h .k) (h .w)) (place < h .records) (λ n. (n ≡ 0) ⊎ (n ≡ 10)) number
 
 abbrev pub Refuses : Width → List ℕ → ℕ → Reason → Type 0
-Refuses W s place got = AsRefused (whyRefusals W s place) (shownWhy (numbers s .k) place) (got .no) got
+Refuses W s place got = AsRefused (whyRefusals W s place) (shownWhy (numbers s .records) (numbers s .k) place) (got .no) got
 
 -- "The reason given must be what happened in this draw"
 pub record Explains (W : Width) (s : List ℕ) (place : ℕ) (got : Reason) : Type 0 where
   pub none : (got .no ≡ 0) × (got .batch ≡ 0)
   pub method : Lemire (W .bits) (samplePlan W (numbers s .records) (numbers s .k)) (wordsOf s) 0 (got .next) (got .rejected) (λ rolls.
-      Tells (numbers s .k) rolls place got)
+      Tells (numbers s .records) (numbers s .k) rolls place got)
 
 abbrev pub Gives : Width → List ℕ → ℕ → Reason → Type 0
 Gives W s place got = Allowed (whyRefusals W s place) → Explains W s place got
@@ -97,7 +97,7 @@ AsTheDraw W = (s lent : List ℕ) (place : ℕ) → numbers s .k ≤ length lent
     (r .no ≡ d .no) × (r .next ≡ d .next) × (r .rejected ≡ d .rejected) × (r .batch ≡ d .batch)
 
 abbrev pub DrawnIn : Reason → ℕ → Type 0
-DrawnIn r slot = ((r .reason ≡ 1) ⊎ (r .reason ≡ 2)) × (r .slot ≡ slot)
+DrawnIn r slot = ((r .reason ≡ 1) ⊎ (r .reason ≡ 2)) × (r .«final_slot» ≡ slot)
 
 abbrev pub NotDrawn : Reason → Type 0
 NotDrawn r = (r .reason ≡ 3) ⊎ (r .reason ≡ 4)
@@ -120,34 +120,36 @@ Takers W s slot p (q ∷ qs) =
 -- ---- examples
 
 -- Bounds 3 and 4 are one batch; it rejects the word 2^63, and 2^63 + 1 gives the rolls 1 and 2. So place 2 takes slot 1, which place 1 held, and
--- place 3 takes none.
+-- place 3 takes none. Then word 0 exchanges the two slots.
 abbrev pub worked : List ℕ
-worked = written (2 ^ 63 ∷ (2 ^ 63 + 1) ∷ []) (101 ∷ 205 ∷ 309 ∷ 412 ∷ []) 2 1
+worked = written (2 ^ 63 ∷ (2 ^ 63 + 1) ∷ 0 ∷ []) (101 ∷ 205 ∷ 309 ∷ 412 ∷ []) 2 1
 
--- the rejected word alone, and such a k
-abbrev pub short : ℕ → List ℕ
-short k = written (2 ^ 63 ∷ []) (101 ∷ 205 ∷ 309 ∷ 412 ∷ []) k 1
+-- such words, and such a k
+abbrev pub short : List ℕ → ℕ → List ℕ
+short words k = written words (101 ∷ 205 ∷ 309 ∷ 412 ∷ []) k 1
 
 abbrev pub fields : Reason → List ℕ
-fields r = r .no ∷ r .next ∷ r .rejected ∷ r .batch ∷ r .reason ∷ r .slot ∷ r .«by_place» ∷ r .«by_step» ∷ r .roll ∷ []
+fields r = r .no ∷ r .next ∷ r .rejected ∷ r .batch ∷ r .reason ∷ r .slot ∷ r .«final_slot» ∷ r .«by_place» ∷ r .«by_step» ∷ r .roll ∷ []
 
 unfoldable pub table : List Bool
 table =
-    -- stayed in slot 0; its slot 1 was taken by place 2 at step 0; rolled into slot 1 and stayed; its own roll was 2
-    same (fields (seenWhy w64 worked 0)) (0 ∷ 2 ∷ 1 ∷ 0 ∷ 1 ∷ 0 ∷ 0 ∷ 0 ∷ 0 ∷ [])
-    ∷ same (fields (seenWhy w64 worked 1)) (0 ∷ 2 ∷ 1 ∷ 0 ∷ 3 ∷ 1 ∷ 2 ∷ 0 ∷ 0 ∷ [])
-    ∷ same (fields (seenWhy w64 worked 2)) (0 ∷ 2 ∷ 1 ∷ 0 ∷ 2 ∷ 1 ∷ 0 ∷ 0 ∷ 0 ∷ [])
-    ∷ same (fields (seenWhy w64 worked 3)) (0 ∷ 2 ∷ 1 ∷ 0 ∷ 4 ∷ 0 ∷ 0 ∷ 0 ∷ 2 ∷ [])
+    -- stayed in slot 0, and is in slot 1 in the end; its slot 1 was taken by place 2 at step 0; rolled into slot 1, and is in slot 0 in the end;
+    -- its own roll was 2
+    same (fields (seenWhy w64 worked 0)) (0 ∷ 3 ∷ 1 ∷ 0 ∷ 1 ∷ 0 ∷ 1 ∷ 0 ∷ 0 ∷ 0 ∷ [])
+    ∷ same (fields (seenWhy w64 worked 1)) (0 ∷ 3 ∷ 1 ∷ 0 ∷ 3 ∷ 1 ∷ 0 ∷ 2 ∷ 0 ∷ 0 ∷ [])
+    ∷ same (fields (seenWhy w64 worked 2)) (0 ∷ 3 ∷ 1 ∷ 0 ∷ 2 ∷ 1 ∷ 0 ∷ 0 ∷ 0 ∷ 0 ∷ [])
+    ∷ same (fields (seenWhy w64 worked 3)) (0 ∷ 3 ∷ 1 ∷ 0 ∷ 4 ∷ 0 ∷ 0 ∷ 0 ∷ 0 ∷ 2 ∷ [])
     -- on the sheet of document 01 slot 0 was taken twice: the first taker is named
-    ∷ same (fields (seenWhy w64 plain 0)) (0 ∷ 2 ∷ 1 ∷ 0 ∷ 3 ∷ 0 ∷ 1 ∷ 0 ∷ 0 ∷ [])
-    ∷ same (fields (seenWhy w64 plain 1)) (0 ∷ 2 ∷ 1 ∷ 0 ∷ 3 ∷ 0 ∷ 2 ∷ 1 ∷ 0 ∷ [])
-    ∷ same (fields (seenWhy w64 plain 2)) (0 ∷ 2 ∷ 1 ∷ 0 ∷ 2 ∷ 0 ∷ 0 ∷ 0 ∷ 0 ∷ [])
-    -- 10, and 7, 3 and 1 before it
-    ∷ same (fields (seenWhy w64 (short 2) 3)) (10 ∷ 0 ∷ 0 ∷ 0 ∷ 0 ∷ 0 ∷ 0 ∷ 0 ∷ 0 ∷ [])
-    ∷ same (fields (seenWhy w64 (short 2) 4)) (7 ∷ 0 ∷ 0 ∷ 0 ∷ 0 ∷ 0 ∷ 0 ∷ 0 ∷ 0 ∷ [])
-    ∷ same (fields (seenWhy w64 (short 2) 9)) (7 ∷ 0 ∷ 0 ∷ 0 ∷ 0 ∷ 0 ∷ 0 ∷ 0 ∷ 0 ∷ [])
-    ∷ same (fields (seenWhy w64 (short 5) 4)) (3 ∷ 0 ∷ 0 ∷ 0 ∷ 0 ∷ 0 ∷ 0 ∷ 0 ∷ 0 ∷ [])
-    ∷ same (fields (seenWhy w64 [] 4)) (1 ∷ 0 ∷ 0 ∷ 0 ∷ 0 ∷ 0 ∷ 0 ∷ 0 ∷ 0 ∷ [])
+    ∷ same (fields (seenWhy w64 plain 0)) (0 ∷ 2 ∷ 1 ∷ 0 ∷ 3 ∷ 0 ∷ 0 ∷ 1 ∷ 0 ∷ 0 ∷ [])
+    ∷ same (fields (seenWhy w64 plain 1)) (0 ∷ 2 ∷ 1 ∷ 0 ∷ 3 ∷ 0 ∷ 0 ∷ 2 ∷ 1 ∷ 0 ∷ [])
+    ∷ same (fields (seenWhy w64 plain 2)) (0 ∷ 2 ∷ 1 ∷ 0 ∷ 2 ∷ 0 ∷ 0 ∷ 0 ∷ 0 ∷ 0 ∷ [])
+    -- 10, also where only the final shuffle lacks words; and 7, 3 and 1 before it
+    ∷ same (fields (seenWhy w64 (short (2 ^ 63 ∷ []) 2) 3)) (10 ∷ 0 ∷ 0 ∷ 0 ∷ 0 ∷ 0 ∷ 0 ∷ 0 ∷ 0 ∷ 0 ∷ [])
+    ∷ same (fields (seenWhy w64 (short (2 ^ 63 ∷ (2 ^ 63 + 1) ∷ []) 2) 3)) (10 ∷ 0 ∷ 0 ∷ 1 ∷ 0 ∷ 0 ∷ 0 ∷ 0 ∷ 0 ∷ 0 ∷ [])
+    ∷ same (fields (seenWhy w64 (short (2 ^ 63 ∷ []) 2) 4)) (7 ∷ 0 ∷ 0 ∷ 0 ∷ 0 ∷ 0 ∷ 0 ∷ 0 ∷ 0 ∷ 0 ∷ [])
+    ∷ same (fields (seenWhy w64 (short (2 ^ 63 ∷ []) 2) 9)) (7 ∷ 0 ∷ 0 ∷ 0 ∷ 0 ∷ 0 ∷ 0 ∷ 0 ∷ 0 ∷ 0 ∷ [])
+    ∷ same (fields (seenWhy w64 (short (2 ^ 63 ∷ []) 5) 4)) (3 ∷ 0 ∷ 0 ∷ 0 ∷ 0 ∷ 0 ∷ 0 ∷ 0 ∷ 0 ∷ 0 ∷ [])
+    ∷ same (fields (seenWhy w64 [] 4)) (1 ∷ 0 ∷ 0 ∷ 0 ∷ 0 ∷ 0 ∷ 0 ∷ 0 ∷ 0 ∷ 0 ∷ [])
     ∷ []
 
 pub record Promise (W : Width) : Type 0 where

@@ -1,4 +1,5 @@
 pub mod Fates
+pub mod Finals
 pub mod Firsts
 pub mod Pinned
 pub mod Slots

@@ -2,10 +2,11 @@
 --
 --   reasons-pinned    the statement
 use mathlib.Core.Path.{_≡_, refl}
-use mathlib.Core.Logic.{inl, inr}
+use mathlib.Core.Logic.{_⊎_, inl, inr}
 use mathlib.Core.List.{List}
-use Prim.Native.Nat.{ℕ}
-use Rattle.reasons.specs.Happened.{Happened, Tells}
+use Prim.Native.Nat.{ℕ, _-_}
+use lib.ListN.{take}
+use Rattle.reasons.specs.Happened.{Happened, EndsIn, Tells}
 use Rattle.reasons.specs.Pinned.{ReasonsPinned}
 use Rattle.reasons.specs.Why.{told}
 use Rattle.reasons.specs.declared.fate.Fate.{Fate}
@@ -13,19 +14,21 @@ use Rattle.reasons.specs.declared.fate.Fate.the-variants.{Stayed, Rolled
 use Rattle.reasons.specs.declared.why.Reason.{Reason}
 use Rattle.reasons.proofs.Slots.{slots-first, slots-gets, slots-stays, slots-last}
 use Rattle.reasons.proofs.Fates.{fate-happened, fate-only}
+use Rattle.reasons.proofs.Finals.{final-ends, final-only}
 
-tells : (k : ℕ) (rolls : List ℕ) (p next rejected : ℕ) (fate : Fate) → Happened k rolls p fate → Tells k rolls p (told next rejected fate)
-tells k rolls p next rejected (Stayed slot) h = inl (refl, h, refl, refl, refl)
-tells k rolls p next rejected (RolledIn slot) h = inr (inl (refl, h, refl, refl, refl))
-tells k rolls p next rejected (Taken slot by step) h = inr (inr (inl (refl, h, refl)))
-tells k rolls p next rejected (PassedOver roll) h = inr (inr (inr (refl, h, refl, refl, refl)))
+tells : (n k : ℕ) (rolls : List ℕ) (p next rejected : ℕ) (final : ℕ → ℕ) (fate : Fate) → Happened k (take (n - k) rolls) p fate
+    → ((slot : ℕ) → (fate ≡ Stayed slot) ⊎ (fate ≡ RolledIn slot) → EndsIn n k rolls p (final slot)) → Tells n k rolls p (told next rejected final fate)
+tells n k rolls p next rejected final (Stayed slot) h e = inl (refl, h, e slot (inl refl), refl, refl, refl)
+tells n k rolls p next rejected final (RolledIn slot) h e = inr (inl (refl, h, e slot (inr refl), refl, refl, refl))
+tells n k rolls p next rejected final (Taken slot by step) h e = inr (inr (inl (refl, h, refl, refl)))
+tells n k rolls p next rejected final (PassedOver roll) h e = inr (inr (inr (refl, h, refl, refl, refl, refl)))
 
-used : (next rejected : ℕ) (fate : Fate) → let r : Reason = told next rejected fate in
+used : (next rejected : ℕ) (final : ℕ → ℕ) (fate : Fate) → let r : Reason = told next rejected final fate in
     (r .no ≡ 0) × (r .next ≡ next) × (r .rejected ≡ rejected) × (r .batch ≡ 0)
-used next rejected (Stayed slot) = (refl, refl, refl, refl)
-used next rejected (RolledIn slot) = (refl, refl, refl, refl)
-used next rejected (Taken slot by step) = (refl, refl, refl, refl)
-used next rejected (PassedOver roll) = (refl, refl, refl, refl)
+used next rejected final (Stayed slot) = (refl, refl, refl, refl)
+used next rejected final (RolledIn slot) = (refl, refl, refl, refl)
+used next rejected final (Taken slot by step) = (refl, refl, refl, refl)
+used next rejected final (PassedOver roll) = (refl, refl, refl, refl)
 
 pub reasons-pinned : ReasonsPinned
 reasons-pinned = record {
@@ -35,7 +38,8 @@ reasons-pinned = record {
     stays = slots-stays k rolls;
     last = slots-last k rolls;
   };
-  answers = record { tells = tells; used = used; none = λ k p n batch. refl };
+  final = λ n k rolls h t. record { ends = final-ends n k rolls h t; only = final-only n k rolls h t };
+  answers = record { tells = tells; used = used; none = λ n k p number batch. refl };
   happened = fate-happened;
   only = fate-only;
 }

@@ -1,5 +1,5 @@
 -- What happened to a place in a draw of k by these rolls. The slots hold places: at first slot j holds place j, and at step i the slot that roll
--- i names, if it is below k, gets place k + i.
+-- i names, if it is below k, gets place k + i. These are the rolls of the reservoir; then the slots are shuffled by the others.
 --
 --   slotsAfter k rolls t          the places that the slots hold when the first t steps are done, by the reservoir of the sample itself
 --   Holds k rolls slot p t        the slot holds place p when t steps are done
@@ -8,14 +8,16 @@
 --   HeldUntil k rolls slot p t    the slot holds place p from its turn until t steps are done
 --   Rolled k rolls p roll         place p has a roll, at its step p - k, and it is this one
 --   Happened k rolls p fate       this became of place p: the four reasons of document 02, as propositions about the slots and the rolls
---   Tells k rolls p answer        the answer tells what happened to place p: the number of the reason, what it names, and 0 in the fields that do
---                                 not apply
+--   EndsIn n k rolls p slot       the slot holds place p in the end: all the rolls of a draw of k from n records make it so of the places 0, .., n - 1
+--   Tells n k rolls p answer      by all the rolls of the draw, the answer tells what happened to place p: the number of the reason, what it names,
+--                                 and 0 in the fields that do not apply
 use mathlib.Core.Path.{_≡_}
 use mathlib.Core.Logic.{_⊎_}
 use mathlib.Core.List.{List}
 use Prim.Native.Nat.{ℕ, _+_, _-_, _<_, _≤_}
 use lib.ListN.{length, take, getD}
 use Rattle.rules.specs.Reservoir.{countup, reservoir}
+use Rattle.rules.specs.Sample.{sampleWith}
 use Rattle.reasons.specs.declared.fate.Fate.{Fate}
 use Rattle.reasons.specs.declared.fate.Fate.the-variants.{Stayed, RolledIn, Taken, PassedOver}
 use Rattle.reasons.specs.declared.why.Reason.{Reason}
@@ -46,9 +48,13 @@ Happened k rolls p (Taken slot by step) =
 -- "its own roll was k or more, with the roll"
 Happened k rolls p (PassedOver roll) = Rolled k rolls p roll × (k ≤ roll)
 
-abbrev pub Tells : ℕ → List ℕ → ℕ → Reason → Type 0
-Tells k rolls p r =
-    ((r .reason ≡ 1) × Happened k rolls p (Stayed (r .slot)) × (r .«by_place» ≡ 0) × (r .«by_step» ≡ 0) × (r .roll ≡ 0))
-    ⊎ (((r .reason ≡ 2) × Happened k rolls p (RolledIn (r .slot)) × (r .«by_place» ≡ 0) × (r .«by_step» ≡ 0) × (r .roll ≡ 0))
-    ⊎ (((r .reason ≡ 3) × Happened k rolls p (Taken (r .slot) (r .«by_place») (r .«by_step»)) × (r .roll ≡ 0))
-    ⊎ ((r .reason ≡ 4) × Happened k rolls p (PassedOver (r .roll)) × (r .slot ≡ 0) × (r .«by_place» ≡ 0) × (r .«by_step» ≡ 0))))
+abbrev pub EndsIn : ℕ → ℕ → List ℕ → ℕ → ℕ → Type 0
+EndsIn n k rolls p slot = (slot < k) × (getD (sampleWith k rolls (countup n 0)) slot 0 ≡ p)
+
+abbrev pub Tells : ℕ → ℕ → List ℕ → ℕ → Reason → Type 0
+Tells n k rolls p r =
+    let js : List ℕ = take (n - k) rolls in
+    ((r .reason ≡ 1) × Happened k js p (Stayed (r .slot)) × EndsIn n k rolls p (r .«final_slot») × (r .«by_place» ≡ 0) × (r .«by_step» ≡ 0) × (r .roll ≡ 0))
+    ⊎ (((r .reason ≡ 2) × Happened k js p (RolledIn (r .slot)) × EndsIn n k rolls p (r .«final_slot») × (r .«by_place» ≡ 0) × (r .«by_step» ≡ 0) × (r .roll ≡ 0))
+    ⊎ (((r .reason ≡ 3) × Happened k js p (Taken (r .slot) (r .«by_place») (r .«by_step»)) × (r .«final_slot» ≡ 0) × (r .roll ≡ 0))
+    ⊎ ((r .reason ≡ 4) × Happened k js p (PassedOver (r .roll)) × (r .slot ≡ 0) × (r .«final_slot» ≡ 0) × (r .«by_place» ≡ 0) × (r .«by_step» ≡ 0))))

@@ -1,19 +1,24 @@
 -- What pins the reasons: the slots step by step, and that the reason told is what happened.
 --
 --   SlotsPinned      the slots that hold places, step by step; in the end they hold what the sample of the places 0, 1, .., n - 1 gives
+--   FinalPinned      of the rolls of a draw: a place that a slot holds when the reservoir is done ends in the slot's final slot, and in no other
 --   AnswerPinned     the answer that tells what became of a place, field by field; and that of a refusal
 --   ReasonsPinned    the statement: all of these; of every place below n the reason told is true, and no other is, with no other values
 use mathlib.Core.Path.{_≡_}
-use mathlib.Core.Logic.{_≢_}
+use mathlib.Core.Logic.{_≢_, _⊎_}
 use mathlib.Core.List.{List}
-use Prim.Native.Nat.{ℕ, _+_, _<_}
+use Prim.Native.Nat.{ℕ, _+_, _-_, _<_, _≤_}
+use lib.Dec.{T}
 use lib.ListN.{length, take, drop, getD}
 use Rattle.rules.specs.Reservoir.{countup, reservoir}
+use Rattle.rules.specs.Rolls.{inRange}
+use Rattle.rules.specs.Sample.{sampleBounds}
 use Rattle.answers.specs.Outcome.{refused}
-use Rattle.reasons.specs.Fate.{fateOf}
-use Rattle.reasons.specs.Happened.{slotsAfter, Happened, Tells}
+use Rattle.reasons.specs.Fate.{fateOf, finalSlot}
+use Rattle.reasons.specs.Happened.{slotsAfter, Holds, Happened, EndsIn, Tells}
 use Rattle.reasons.specs.Why.{told, shownWhy}
 use Rattle.reasons.specs.declared.fate.Fate.{Fate}
+use Rattle.reasons.specs.declared.fate.Fate.the-variants.{Stayed, RolledIn}
 use Rattle.reasons.specs.declared.why.Reason.{Reason}
 
 pub record SlotsPinned (k : ℕ) (rolls : List ℕ) : Type 0 where
@@ -26,15 +31,33 @@ pub record SlotsPinned (k : ℕ) (rolls : List ℕ) : Type 0 where
   pub last : let places : List ℕ = countup (k + length rolls) 0 in
       slotsAfter k rolls (length rolls) ≡ reservoir (take k places) (drop k places) rolls
 
+-- "M-101's first two reasons add the final slot."
+pub record FinalPinned (n k : ℕ) (rolls : List ℕ) : Type 0 where
+  pub ends : (p slot : ℕ) → Holds k (take (n - k) rolls) slot p (n - k) → EndsIn n k rolls p (finalSlot k (drop (n - k) rolls) slot)
+  pub only : (p slot final : ℕ) → p < n → Holds k (take (n - k) rolls) slot p (n - k) → EndsIn n k rolls p final → final ≡ finalSlot k (drop (n - k) rolls) slot
+
 pub record AnswerPinned : Type 0 where
-  pub tells : (k : ℕ) (rolls : List ℕ) (p next rejected : ℕ) (fate : Fate) → Happened k rolls p fate → Tells k rolls p (told next rejected fate)
-  pub used : (next rejected : ℕ) (fate : Fate) → let r : Reason = told next rejected fate in
+  pub tells : (n k : ℕ) (rolls : List ℕ) (p next rejected : ℕ) (final : ℕ → ℕ) (fate : Fate) → Happened k (take (n - k) rolls) p fate
+      → ((slot : ℕ) → (fate ≡ Stayed slot) ⊎ (fate ≡ RolledIn slot) → EndsIn n k rolls p (final slot)) → Tells n k rolls p (told next rejected final fate)
+  pub used : (next rejected : ℕ) (final : ℕ → ℕ) (fate : Fate) → let r : Reason = told next rejected final fate in
       (r .no ≡ 0) × (r .next ≡ next) × (r .rejected ≡ rejected) × (r .batch ≡ 0)
-  pub none : (k p n batch : ℕ) → shownWhy k p (refused n batch)
-      ≡ record { no = n; next = 0; rejected = 0; batch = batch; reason = 0; slot = 0; «by_place» = 0; «by_step» = 0; roll = 0 }
+  pub none : (n k p number batch : ℕ) → shownWhy n k p (refused number batch)
+      ≡ record {
+        no = number;
+        next = 0;
+        rejected = 0;
+        batch = batch;
+        reason = 0;
+        slot = 0;
+        «final_slot» = 0;
+        «by_place» = 0;
+        «by_step» = 0;
+        roll = 0;
+      }
 
 pub record ReasonsPinned : Type 0 where
   pub slots : (k : ℕ) (rolls : List ℕ) → SlotsPinned k rolls
+  pub final : (n k : ℕ) (rolls : List ℕ) → k ≤ n → T (inRange (sampleBounds n k) rolls) → FinalPinned n k rolls
   pub answers : AnswerPinned
   -- "The reason given must be what happened in this draw"
   pub happened : (k : ℕ) (rolls : List ℕ) (p : ℕ) → p < k + length rolls → Happened k rolls p (fateOf k rolls p)

@@ -2,19 +2,20 @@
 --
 --   whyRefusals W s place       the numbers that it can meet, each with its test
 --   why W s place               what comes of it: the rolls of the draw of the sheet s
---   told next rejected fate     the answer that tells what became of a place
---   shownWhy k place outcome    the answer that the caller gets
+--   told next rejected final fate    the answer that tells what became of a place, where final tells the final slot of what a slot holds
+--   shownWhy n k place outcome  the answer that the caller gets
 --   seenWhy W s place           what its caller sees; the contract of the code is the equation with this
 use mathlib.Core.List.{List, [], _∷_, _++_}
-use Prim.Native.Nat.{ℕ}
+use Prim.Native.Nat.{ℕ, _-_}
 use lib.Dec.{leb}
+use lib.ListN.{take, drop}
 use Rattle.rules.specs.Run.{run, next, rejected}
 use Rattle.rules.specs.Width.{Width}
 use Rattle.answers.specs.Outcome.{Outcome, refused, done, Refusal, no, noWord, decide, fromRun}
 use Rattle.draws.specs.Sample.{samplePlan}
 use Rattle.sheet.specs.ReadSheet.{unreadable}
 use Rattle.sheet.specs.Sheet.{numbers, wordsOf}
-use Rattle.reasons.specs.Fate.{fateOf}
+use Rattle.reasons.specs.Fate.{fateOf, finalSlot}
 use Rattle.reasons.specs.declared.fate.Fate.{Fate}
 use Rattle.reasons.specs.declared.fate.Fate.the-variants.{Stayed, RolledIn, Taken, PassedOver}
 use Rattle.reasons.specs.declared.why.Reason.{Reason}
@@ -29,20 +30,72 @@ why W s place =
     decide (whyRefusals W s place) (fromRun (W .bits) (samplePlan W (numbers s .records) (numbers s .k)) (wordsOf s) 0 (λ rolls. rolls))
 
 -- Fields that do not apply are 0.
-abbrev pub told : ℕ → ℕ → Fate → Reason
-told next rejected (Stayed slot) =
-    record { no = 0; next = next; rejected = rejected; batch = 0; reason = 1; slot = slot; «by_place» = 0; «by_step» = 0; roll = 0 }
-told next rejected (RolledIn slot) =
-    record { no = 0; next = next; rejected = rejected; batch = 0; reason = 2; slot = slot; «by_place» = 0; «by_step» = 0; roll = 0 }
-told next rejected (Taken slot by step) =
-    record { no = 0; next = next; rejected = rejected; batch = 0; reason = 3; slot = slot; «by_place» = by; «by_step» = step; roll = 0 }
-told next rejected (PassedOver roll) =
-    record { no = 0; next = next; rejected = rejected; batch = 0; reason = 4; slot = 0; «by_place» = 0; «by_step» = 0; roll = roll }
+abbrev pub told : ℕ → ℕ → (ℕ → ℕ) → Fate → Reason
+told next rejected final (Stayed slot) = record {
+  no = 0;
+  next = next;
+  rejected = rejected;
+  batch = 0;
+  reason = 1;
+  slot = slot;
+  «final_slot» = final slot;
+  «by_place» = 0;
+  «by_step» = 0;
+  roll = 0;
+}
+told next rejected final (RolledIn slot) = record {
+  no = 0;
+  next = next;
+  rejected = rejected;
+  batch = 0;
+  reason = 2;
+  slot = slot;
+  «final_slot» = final slot;
+  «by_place» = 0;
+  «by_step» = 0;
+  roll = 0;
+}
+told next rejected final (Taken slot by step) = record {
+  no = 0;
+  next = next;
+  rejected = rejected;
+  batch = 0;
+  reason = 3;
+  slot = slot;
+  «final_slot» = 0;
+  «by_place» = by;
+  «by_step» = step;
+  roll = 0;
+}
+told next rejected final (PassedOver roll) = record {
+  no = 0;
+  next = next;
+  rejected = rejected;
+  batch = 0;
+  reason = 4;
+  slot = 0;
+  «final_slot» = 0;
+  «by_place» = 0;
+  «by_step» = 0;
+  roll = roll;
+}
 
-abbrev pub shownWhy : ℕ → ℕ → Outcome → Reason
-shownWhy k place (refused n batch) =
-    record { no = n; next = 0; rejected = 0; batch = batch; reason = 0; slot = 0; «by_place» = 0; «by_step» = 0; roll = 0 }
-shownWhy k place (done rolls ts) = told (next 0 ts) (rejected 0 ts) (fateOf k rolls place)
+-- The first n - k rolls are those of the reservoir, the others those of the final shuffle.
+abbrev pub shownWhy : ℕ → ℕ → ℕ → Outcome → Reason
+shownWhy n k place (refused number batch) = record {
+  no = number;
+  next = 0;
+  rejected = 0;
+  batch = batch;
+  reason = 0;
+  slot = 0;
+  «final_slot» = 0;
+  «by_place» = 0;
+  «by_step» = 0;
+  roll = 0;
+}
+shownWhy n k place (done rolls ts) =
+    told (next 0 ts) (rejected 0 ts) (finalSlot k (drop (n - k) rolls)) (fateOf k (take (n - k) rolls) place)
 
 abbrev pub seenWhy : Width → List ℕ → ℕ → Reason
-seenWhy W s place = shownWhy (numbers s .k) place (why W s place)
+seenWhy W s place = shownWhy (numbers s .records) (numbers s .k) place (why W s place)

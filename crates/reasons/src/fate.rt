@@ -1,8 +1,11 @@
-// What became of a place of the register in a draw, read off the rolls of the places from k on.
+// What became of a place of the register in a draw, read off the rolls of the places from k on; and where the final shuffle puts a slot.
 ghost use mathlib.Core.Path.{_≡_};
+ghost use mathlib.Core.Bool.{true};
 ghost use Prim.Native.Nat.{_+_, _<_, _≤_};
 ghost use lib.ListN.{length};
-ghost use Rattle.reasons.specs.Fate.{firstFrom, fateOf};
+ghost use Rattle.rules.specs.Rolls.{inRange};
+ghost use Rattle.rules.specs.Shuffle.{shuffleBounds};
+ghost use Rattle.reasons.specs.Fate.{firstFrom, fateOf, finalSlot};
 
 // The one reason why a place was drawn or not. Slots, places and steps are counted from 0; place i, from k on, has step i - k.
 pub enum Fate {
@@ -41,7 +44,7 @@ fn first_roll(rolls: &[u64], from: usize, slot: u64) -> usize
     step
 }
 
-// What became of a place in a draw of k by these rolls.
+// What became of a place in a draw of k, by the rolls of the reservoir.
 pub fn fate_of(rolls: &[u64], k: usize, place: usize) -> Fate
     requires { ⌜ (place < k + length (now rolls)) × (k + length (now rolls) ≤ 16384) ⌝ }
     ensures { λ r. ⌜ r ≡ fateOf k (now (rolls .entry)) place ⌝ }
@@ -71,4 +74,24 @@ pub fn fate_of(rolls: &[u64], k: usize, place: usize) -> Fate
         };
     }
     Fate::RolledIn { slot }
+}
+
+// Where the final shuffle of k slots, by these rolls, puts what a slot holds.
+pub fn final_slot(rolls: &[u64], k: usize, slot: usize) -> usize
+    requires { ⌜ (slot < k) × (inRange (shuffleBounds k) (now rolls) ≡ true) ⌝ }
+    ensures { λ r. ⌜ r ≡ finalSlot k (now (rolls .entry)) slot ⌝ }
+{
+    let mut at = slot;
+    let mut i: usize = 0;
+    while i < rolls.len() {
+        let roll = rolls[i] as usize;
+        let last = k - 1 - i;
+        if at == roll {
+            at = last;
+        } else if at == last {
+            at = roll;
+        }
+        i += 1;
+    }
+    at
 }

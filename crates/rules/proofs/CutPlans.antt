@@ -1,8 +1,8 @@
--- The batches of a list of bounds, and of a sample, are its bounds in their order, and each can be rolled. Over every limit. Assumes nothing.
+-- The batches of a list of bounds, and of a reservoir, are its bounds in their order, and each can be rolled. Over every limit. Assumes nothing.
 --
---   Bounded        each bound is 1 or more, and at most so much
---   cut-plan       the batches of a list of bounds
---   sample-plan    and those of a sample
+--   Bounded           each bound is 1 or more, and at most so much
+--   cut-plan          the batches of a list of bounds
+--   reservoir-plan and those of a reservoir
 use mathlib.Core.Path.{_≡_, refl, ap, _∙_}
 use mathlib.Core.Bool.{Bool, true, false, and-eq-true-iff}
 use mathlib.Core.List.{List, [], _∷_, _++_}
@@ -73,9 +73,9 @@ module _ (limit most : ℕ) (l : limit ≤ most) where
       let h = g 0 (suc-le-suc zero-le) in
       cut-from (b ∷ []) bs (one-bound b (h .0) (h .1)) (λ i k. g (suc i) (suc-le-suc k))
 
-  -- the bounds k + 1, .., n of a sample of k from n records
-  pub sample-plan : (n k : ℕ) → n ≤ most → PlanOf most (countup (n - k) (k + 1)) (cut limit (countup (n - k) (k + 1)))
-  sample-plan n k h = cut-plan (countup (n - k) (k + 1)) each
+  -- the bounds k + 1, .., n of a reservoir of k from n records
+  pub reservoir-plan : (n k : ℕ) → n ≤ most → PlanOf most (countup (n - k) (k + 1)) (cut limit (countup (n - k) (k + 1)))
+  reservoir-plan n k h = cut-plan (countup (n - k) (k + 1)) each
     where
       each : Bounded most (countup (n - k) (k + 1))
       each i f =

@@ -1,6 +1,7 @@
 -- Facts of no subject. Assumes nothing.
 --
 --   both                two tests pass together exactly where each passes
+--   truth               a test that passes is true
 --   clash               a case that does not arise
 --   or-left, or-right   each of two tests fails where neither passes
 use mathlib.Core.Path.{_≡_, refl}
@@ -13,6 +14,10 @@ use lib.Dec.{T}
 pub both : (a b : Bool) → T (a && b) ↔ (T a × T b)
 both true b = (λ t. (tt, t), λ p. p .1)
 both false b = (λ t. absurd t, λ p. absurd (p .0))
+
+pub truth : (b : Bool) → T b → b ≡ true
+truth true t = refl
+truth false t = absurd t
 
 -- a case that does not arise, where two variants would be one: `clash cc`
 pub clash : {A : Type 0} → _≡_ {A = ℕ} 0 1 → A

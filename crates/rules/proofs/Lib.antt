@@ -20,7 +20,9 @@ pub mod Rolls
 pub mod Rows
 pub mod Running
 pub mod Runs
+pub mod Samples
 pub mod ShufflePlans
+pub mod Turns
 pub mod Widths
 pub mod Words
 pub mod Writing

@@ -2,6 +2,7 @@
 -- that is looked up. The batches play no part: a shuffle is one flat series with the bounds n, n - 1, .., 2. Assumes nothing.
 --
 --   place-first                                      the first place of a record, or the length
+--   place-at                                         a record that stands in a list stands at its place
 --   place-of                                         the place of a record that stands at one place
 --   range-cons                                       one roll in range of a shuffle's bounds
 --   length-shuffle                                   a shuffle keeps the number of records
@@ -50,7 +51,7 @@ place-first x (y ∷ ys) = go (eqb x y) refl (place-first x ys)
     go false t (l, none, at) =
         rw (t, placeOf, add-one) (omega arith, later (λ e. eqb-false x y t (sym e)) none, λ h. at (le-of-suc-le-suc h))
 
-place-at : (x : ℕ) (xs : List ℕ) → Among x xs → (placeOf x xs < length xs) × (getD xs (placeOf x xs) 0 ≡ x)
+pub place-at : (x : ℕ) (xs : List ℕ) → Among x xs → (placeOf x xs < length xs) × (getD xs (placeOf x xs) 0 ≡ x)
 place-at x xs (p, h, e) =
     let (l, none, at) = place-first x xs in
     elim (decLt (placeOf x xs) (length xs)) [ yes k ↦ (k, at k) | no n ↦ absurd (none p (omega arith) e) ]

@@ -21,6 +21,7 @@ use Rattle.rules.proofs.PinnedCut.{cut-pinned}
 use Rattle.rules.proofs.PinnedSizes.{sizes-pinned}
 use Rattle.rules.proofs.PinnedShuffle.{shuffle-pinned}
 use Rattle.rules.proofs.PinnedReservoir.{reservoir-pinned}
+use Rattle.rules.proofs.Samples.{sample-bounds, sample-pinned}
 use Rattle.rules.proofs.PinnedOrder.{order-pinned}
 
 -- ---- some bound is 0
@@ -91,5 +92,7 @@ pinned = record {
   of-sizes = sizes-pinned;
   of-shuffles = shuffle-pinned;
   of-reservoirs = reservoir-pinned;
+  of-sample-bounds = sample-bounds;
+  of-samples = sample-pinned;
   of-orders = order-pinned;
 }

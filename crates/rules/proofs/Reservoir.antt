@@ -4,8 +4,8 @@
 --   reservoir-taken, reservoir-passed   a record that takes a slot, and one that takes none
 --   reservoir-none                      no roll is left
 --   reservoir-cons, reservoir-snoc      one record more, before the others and after them: a store at its roll
---   reservoir-map                       records under other names leave the same slots, under those names
---   sample-places                       a sample of records is the records at the places that a sample of the places has
+--   map-set, reservoir-map              records under other names leave the same slots, under those names
+--   reservoir-places                    the slots hold the records at the places that the slots hold where the places are the records
 use mathlib.Core.Path.{_≡_, refl, sym, ap, ap₂, _∙_}
 use mathlib.Core.Bool.{Bool, true, false}
 use mathlib.Core.List.{List, [], _∷_, _++_, map}
@@ -72,7 +72,7 @@ reservoir-snoc slots (y ∷ xs) x (i ∷ js) j e =
     reservoir-cons slots y (xs ++ x ∷ []) i (js ++ j ∷ []) ∙ reservoir-snoc (set slots i y) xs x js j (omega arith)
     ∙ ap (λ (l : List ℕ). set l j x) (sym (reservoir-cons slots y xs i js))
 
-map-set : (f : ℕ → ℕ) (l : List ℕ) (i x : ℕ) → set (map f l) i (f x) ≡ map f (set l i x)
+pub map-set : (f : ℕ → ℕ) (l : List ℕ) (i x : ℕ) → set (map f l) i (f x) ≡ map f (set l i x)
 map-set f [] i x = refl
 map-set f (y ∷ l) zero x = refl
 map-set f (y ∷ l) (suc i) x = ap (λ (m : List ℕ). f y ∷ m) (map-set f l i x)
@@ -95,10 +95,10 @@ drop-map f zero xs = refl
 drop-map f (suc k) [] = refl
 drop-map f (suc k) (x ∷ xs) = drop-map f k xs
 
--- so the sample of some records is the records at the places that the sample of their places has
-pub sample-places : (xs js : List ℕ) (k : ℕ) → let places : List ℕ = countup (length xs) 0 in
+-- so the slots of some records hold those at the places that the slots of their places hold
+pub reservoir-places : (xs js : List ℕ) (k : ℕ) → let places : List ℕ = countup (length xs) 0 in
     reservoir (take k xs) (drop k xs) js ≡ map (λ p. getD xs p 0) (reservoir (take k places) (drop k places) js)
-sample-places xs js k =
+reservoir-places xs js k =
     let places : List ℕ = countup (length xs) 0 in
     let at : ℕ → ℕ = λ p. getD xs p 0 in
     ap (λ (l : List ℕ). reservoir (take k l) (drop k l) js) (sym (map-places xs))

@@ -7,5 +7,6 @@ pub mod Put
 pub mod Reservoir
 pub mod Rolls
 pub mod Run
+pub mod Sample
 pub mod Shuffle
 pub mod Width

@@ -17,6 +17,8 @@
 --   LastAt js j i                roll i is j, and no later roll is
 --   Nowhere js j                 no roll is j
 --   ReservoirPinned k xs js slots    slot j holds the last record whose roll was j, else record j
+--   SampleBoundsPinned n k       k + 1, .., n, then k, .., 2: how many, and what stands at each place
+--   SamplePinned k xs js rs      the rolls js fill the slots, and the rolls rs shuffle them: none of the k records drawn is lost
 --   OnePlace x ys                x stands at one place of ys, and at no other
 --   FirstPlace x xs p            place p is the first that holds x, or the length of xs where none does
 --   OrderPinned                  an order has each of 0 .. n - 1 at one place, is one of the records 0, 1, .., n - 1, and has rolls behind it; the
@@ -24,7 +26,7 @@
 --   Pinned                       the statement: all of these
 use mathlib.Core.Path.{_≡_}
 use mathlib.Core.Logic.{_↔_, _≢_, _⊎_}
-use mathlib.Core.List.{List, [], _∷_, map}
+use mathlib.Core.List.{List, [], _∷_, _++_, map}
 use Prim.Native.Nat.{ℕ, _+_, _-_, _*_, _/_, _^_, _<_, _≤_}
 use lib.Dec.{T}
 use lib.ListN.{length, take, drop, getD, replicate}
@@ -34,6 +36,7 @@ use Rattle.rules.specs.Plan.{joined}
 use Rattle.rules.specs.Cut.{cut}
 use Rattle.rules.specs.Shuffle.{shuffleWith, countdown, shufflePlan}
 use Rattle.rules.specs.Reservoir.{countup, reservoir}
+use Rattle.rules.specs.Sample.{sampleBounds, sampleWith}
 use Rattle.rules.specs.Limits.{maxBatch, maxBounds, maxRecords}
 use Rattle.rules.specs.Order.{isOrder, placeOf, rollsInto, Reorders, Only}
 
@@ -136,6 +139,16 @@ pub record ReservoirPinned (k : ℕ) (xs js slots : List ℕ) : Type 0 where
   pub slot : (j : ℕ) → j < k
       → ((i : ℕ) × LastAt js j i × (getD slots j 0 ≡ getD xs (k + i) 0)) ⊎ (Nowhere js j × (getD slots j 0 ≡ getD xs j 0))
 
+-- Document 02, M-102: "From now on the k slots are shuffled by the shuffle rules with the words that follow." Here the bounds are counted from 0.
+pub record SampleBoundsPinned (n k : ℕ) : Type 0 where
+  pub count : length (sampleBounds n k) ≡ n - 1
+  pub reservoir : (i : ℕ) → i < n - k → getD (sampleBounds n k) i 0 ≡ k + 1 + i
+  pub shuffle : (i : ℕ) → n - k ≤ i → i < n - 1 → getD (sampleBounds n k) i 0 ≡ n - i
+
+pub record SamplePinned (k : ℕ) (xs js rs : List ℕ) : Type 0 where
+  pub parts : sampleWith k (js ++ rs) xs ≡ shuffleWith k rs (reservoir (take k xs) (drop k xs) js)
+  pub reorders : Reorders (reservoir (take k xs) (drop k xs) js) (sampleWith k (js ++ rs) xs)
+
 -- ---- orders
 
 abbrev pub OnePlace : ℕ → List ℕ → Type 0
@@ -166,4 +179,6 @@ pub record Pinned : Type 0 where
   pub of-sizes : SizesPinned
   pub of-shuffles : (m : ℕ) (xs rs : List ℕ) → m ≤ length xs → Open m rs → ShufflePinned m xs rs
   pub of-reservoirs : (k : ℕ) (xs js : List ℕ) → k + length js ≡ length xs → ReservoirPinned k xs js (reservoir (take k xs) (drop k xs) js)
+  pub of-sample-bounds : (n k : ℕ) → 1 ≤ k → k ≤ n → SampleBoundsPinned n k
+  pub of-samples : (k : ℕ) (xs js rs : List ℕ) → k + length js ≡ length xs → Open k rs → SamplePinned k xs js rs
   pub of-orders : OrderPinned

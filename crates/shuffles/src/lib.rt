@@ -3,3 +3,4 @@
 // Contracts cite specs/: Shuffle (refusals, plan and reading of a shuffle).
 pub mod shuffle;
 pub mod supply;
+pub mod unroll;

@@ -23,7 +23,7 @@ ghost use Rattle.rules.specs.Shuffle.{exchange, shuffleWith, countdown, shuffle
 ghost use Rattle.shuffles.specs.Shuffle.{seenShuffle};
 
 // Exchanges the records at places i and j.
-fn exchange_records(records: &mut [u32], i: usize, j: usize)
+pub fn exchange_records(records: &mut [u32], i: usize, j: usize)
     requires { ⌜ (i < length (now records)) × (j < length (now records)) ⌝ }
     ensures { λ r. ⌜ now (records .exit) ≡ exchange (now (records .entry)) i j ⌝ }
 {

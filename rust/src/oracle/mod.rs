@@ -126,7 +126,7 @@ pub fn shuffle(words: &[u64], start: usize, lent: &mut [u32]) -> Answer {
 fn shuffled(words: &[u64], start: usize, records: &[u32]) -> Outcome<u32> {
     refuse(&[(Refusal::Count, records.len() > MAX_RECORDS), (Refusal::Start, start > words.len())])?;
     let trace = run(&plan::shuffle(records.len()), words, start)?;
-    Ok(Done { values: reading::shuffled(records, &trace), next: trace.next, rejected: trace.rejected })
+    Ok(Done { values: reading::shuffled(records, &trace.batches), next: trace.next, rejected: trace.rejected })
 }
 
 /// Samples k records into the lent list.
@@ -144,7 +144,7 @@ fn sampled(words: &[u64], start: usize, records: &[u32], k: usize, room: usize) 
         (Refusal::Start, start > words.len()),
     ])?;
     let trace = run(&plan::sample(records.len(), k), words, start)?;
-    let values = reading::sampled(records, k, &trace.rolls());
+    let values = reading::sampled(records, k, &trace.batches);
     Ok(Done { values, next: trace.next, rejected: trace.rejected })
 }
 
@@ -240,7 +240,9 @@ pub fn why(sheet: &[u8], place: usize) -> raw::Reason {
     };
     let answer = raw::Reason { next: trace.next, rejected: trace.rejected, reason: reason.number(), ..zeros };
     match reason {
-        Reason::Stayed { slot } | Reason::RolledIn { slot } => raw::Reason { slot, ..answer },
+        Reason::Stayed { slot, final_slot } | Reason::RolledIn { slot, final_slot } => {
+            raw::Reason { slot, final_slot, ..answer }
+        }
         Reason::Taken { slot, by_place, by_step } => raw::Reason { slot, by_place, by_step, ..answer },
         Reason::PassedOver { roll } => raw::Reason { roll, ..answer },
     }
@@ -249,8 +251,8 @@ pub fn why(sheet: &[u8], place: usize) -> raw::Reason {
 fn explained(sheet: &[u8], place: usize) -> Result<(Trace, Reason), Refusal> {
     let (numbers, words, records) = contents(sheet)?;
     refuse(&[(Refusal::Misfit, place >= records.len())])?;
-    let k = numbers.k as usize;
-    let trace = run(&plan::sample(records.len(), k), &words, 0)?;
-    let reasons = reading::reasons(k, &trace.rolls());
+    let (n, k) = (records.len(), numbers.k as usize);
+    let trace = run(&plan::sample(n, k), &words, 0)?;
+    let reasons = reading::reasons(n, k, &trace.batches);
     Ok((trace, reasons[place]))
 }

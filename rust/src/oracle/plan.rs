@@ -51,8 +51,13 @@ pub fn shuffle(n: usize) -> Plan {
     plan
 }
 
-/// The batches of a sample of k from n records: the bounds k + 1, .., n, cut as a list of bounds.
-pub fn sample(n: usize, k: usize) -> Plan {
+/// The batches of the reservoir of k from n records: the bounds k + 1, .., n, cut as a list of bounds.
+pub fn reservoir(n: usize, k: usize) -> Plan {
     let bounds: Vec<u64> = (k + 1..=n).map(|bound| bound as u64).collect();
     cut(&bounds)
+}
+
+/// The batches of a sample of k from n records: those of the reservoir, then those of a shuffle of its k slots.
+pub fn sample(n: usize, k: usize) -> Plan {
+    [reservoir(n, k), shuffle(k)].concat()
 }

@@ -1,16 +1,17 @@
-//! Readings: what rolls mean for records. Fisher-Yates, the reservoir and what happened to each record in it, and the
-//! way back from an order to its rolls.
+//! Readings: what rolls mean for records. Fisher-Yates, the sample and what happened to each record in it, and the way
+//! back from an order to its rolls.
 
-use super::run::Trace;
+use super::plan;
+use super::run::{rolls_of, Taken};
 use crate::reason::Reason;
 use std::mem::replace;
 
 /// Fisher-Yates: with m records still to place, each batch of s rolls exchanges, for i = 1..s in turn, the record at
 /// place roll i with that at place m - i. Then m falls by s.
-pub fn shuffled(records: &[u32], trace: &Trace) -> Vec<u32> {
+pub fn shuffled<T: Copy>(records: &[T], batches: &[Taken]) -> Vec<T> {
     let mut records = records.to_vec();
     let mut m = records.len();
-    for taken in &trace.batches {
+    for taken in batches {
         for (i, &roll) in (1..).zip(&taken.rolls) {
             records.swap(roll as usize, m - i);
         }
@@ -19,9 +20,20 @@ pub fn shuffled(records: &[u32], trace: &Trace) -> Vec<u32> {
     records
 }
 
+/// The sample: the reservoir by its own batches, then Fisher-Yates on its slots by the batches that follow.
+pub fn sampled(records: &[u32], k: usize, batches: &[Taken]) -> Vec<u32> {
+    let (of_the_reservoir, of_the_shuffle) = parted(records.len(), k, batches);
+    shuffled(&reservoir(records, k, &rolls_of(of_the_reservoir)), of_the_shuffle)
+}
+
+/// The batches of a sample parted into those of the reservoir and those of the final shuffle.
+fn parted(n: usize, k: usize, batches: &[Taken]) -> (&[Taken], &[Taken]) {
+    batches.split_at(plan::reservoir(n, k).len())
+}
+
 /// The reservoir: the first k records in slots 0..k - 1, and for each place i from k on its roll j; if j is below k,
 /// slot j gets record i.
-pub fn sampled(records: &[u32], k: usize, rolls: &[u64]) -> Vec<u32> {
+fn reservoir(records: &[u32], k: usize, rolls: &[u64]) -> Vec<u32> {
     let mut slots = records[..k].to_vec();
     for (i, &j) in (k..).zip(rolls) {
         if j < k as u64 {
@@ -31,23 +43,36 @@ pub fn sampled(records: &[u32], k: usize, rolls: &[u64]) -> Vec<u32> {
     slots
 }
 
-/// What happened to the record at each place: the reservoir again, with places in its slots. Step by step a record has
-/// the reason that is true of it so far.
-pub fn reasons(k: usize, rolls: &[u64]) -> Vec<Reason> {
+/// What happened to the record at each of n places: the reservoir again, with places in its slots. Step by step a
+/// record has the reason that is true of it so far.
+pub fn reasons(n: usize, k: usize, batches: &[Taken]) -> Vec<Reason> {
+    let (of_the_reservoir, of_the_shuffle) = parted(n, k, batches);
+    let final_slots = final_slots(k, of_the_shuffle);
     let mut slots: Vec<usize> = (0..k).collect();
-    let mut reasons: Vec<Reason> = slots.iter().map(|&slot| Reason::Stayed { slot }).collect();
-    for (step, &roll) in rolls.iter().enumerate() {
+    let stayed = |&slot: &usize| Reason::Stayed { slot, final_slot: final_slots[slot] };
+    let mut reasons: Vec<Reason> = slots.iter().map(stayed).collect();
+    for (step, &roll) in rolls_of(of_the_reservoir).iter().enumerate() {
         let i = k + step;
         if roll < k as u64 {
             let slot = roll as usize;
             let put_out = replace(&mut slots[slot], i);
             reasons[put_out] = Reason::Taken { slot, by_place: i, by_step: step };
-            reasons.push(Reason::RolledIn { slot });
+            reasons.push(Reason::RolledIn { slot, final_slot: final_slots[slot] });
         } else {
             reasons.push(Reason::PassedOver { roll });
         }
     }
     reasons
+}
+
+/// For each of k slots the one where its record stands after the final shuffle: Fisher-Yates on the slots' own numbers.
+fn final_slots(k: usize, of_the_shuffle: &[Taken]) -> Vec<usize> {
+    let slots: Vec<usize> = (0..k).collect();
+    let mut final_slots = slots.clone();
+    for (final_slot, slot) in shuffled(&slots, of_the_shuffle).into_iter().enumerate() {
+        final_slots[slot] = final_slot;
+    }
+    final_slots
 }
 
 /// Whether a list holds each of 0..n - 1 once.

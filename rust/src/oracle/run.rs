@@ -24,8 +24,13 @@ pub struct Trace {
 impl Trace {
     /// The rolls of all batches, one batch after the other.
     pub fn rolls(&self) -> Vec<u64> {
-        self.batches.iter().flat_map(|taken| taken.rolls.iter().copied()).collect()
+        rolls_of(&self.batches)
     }
+}
+
+/// The rolls of these batches, one batch after the other.
+pub fn rolls_of(batches: &[Taken]) -> Vec<u64> {
+    batches.iter().flat_map(|taken| taken.rolls.iter().copied()).collect()
 }
 
 /// Runs a plan over the words from the start place, or names the first batch that got no word.

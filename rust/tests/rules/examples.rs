@@ -1,4 +1,4 @@
-//! The checked examples of document 01, with the values that stand there.
+//! The checked examples of document 01, with the values that stand there, but for one that document 02 changes (M-102).
 
 use crate::support::{
     batch_refused, behind, done, explained, read_sheet, refused, roll_batch, roll_list, rolled, rolls_behind,
@@ -97,10 +97,13 @@ fn the_rolls_behind_1_2_0_are_0_0() {
     assert_eq!(rolls_behind(&[1, 2, 0], 2), (done(0, 0), Lent::holding(2, &[0, 0])));
 }
 
+/// Document 01 has "Sample of 3 from 3: no word used". M-102 changes it: the three slots are shuffled, as document 01
+/// shuffles 0, 1, 2 with words 0, 1.
 #[test]
-fn a_sample_of_3_from_3_uses_no_word() {
-    assert_eq!(sample(&[], 0, &[7, 8, 9], 3, 3), (done(0, 0), Lent::holding(3, &[7, 8, 9])));
-    assert_eq!(sample(&[5, 6], 1, &[7, 8, 9], 3, 3), (done(1, 0), Lent::holding(3, &[7, 8, 9])));
+fn a_sample_of_3_from_3_now_uses_words() {
+    assert_eq!(sample(&[0, 1], 0, &[0, 1, 2], 3, 3), (done(2, 1), Lent::holding(3, &[1, 2, 0])));
+    assert_eq!(sample(&[0, 1], 0, &[7, 8, 9], 3, 3), (done(2, 1), Lent::holding(3, &[8, 9, 7])));
+    assert_eq!(sample(&[], 0, &[7, 8, 9], 3, 3), (refused(10, 0, 0), Lent::with_room(3)));
 }
 
 #[test]
@@ -136,7 +139,7 @@ fn on_the_sheet_of_52_bytes_record_205_put_out_101_and_309_put_out_205_and_staye
     let sheet = sheets::of_52_bytes();
     assert_eq!(why(&sheet, 0), explained(2, 1, Reason::Taken { slot: 0, by_place: 1, by_step: 0 }));
     assert_eq!(why(&sheet, 1), explained(2, 1, Reason::Taken { slot: 0, by_place: 2, by_step: 1 }));
-    assert_eq!(why(&sheet, 2), explained(2, 1, Reason::RolledIn { slot: 0 }));
+    assert_eq!(why(&sheet, 2), explained(2, 1, Reason::RolledIn { slot: 0, final_slot: 0 }));
 }
 
 #[test]

@@ -95,10 +95,12 @@ static void has_its_reasons(const uint8_t sheet[52])
         HOLDS(why.no == 0 && why.next == 2 && why.rejected == 1 && why.batch == 0);
         HOLDS(why.reason == (place < 2 ? HILDRASP_TAKEN : HILDRASP_ROLLED_IN) && why.slot == 0 && why.roll == 0);
         HOLDS(why.by_place == (place < 2 ? place + 1 : 0) && why.by_step == (place < 2 ? place : 0));
+        HOLDS(why.final_slot == 0);
     }
     hildrasp_reason why = hildrasp_why(sheet, 52, 3);
     HOLDS(why.no == HILDRASP_MISFIT && why.next == 0 && why.rejected == 0 && why.batch == 0);
-    HOLDS(why.reason == 0 && why.slot == 0 && why.by_place == 0 && why.by_step == 0 && why.roll == 0);
+    HOLDS(why.reason == 0 && why.slot == 0 && why.final_slot == 0);
+    HOLDS(why.by_place == 0 && why.by_step == 0 && why.roll == 0);
     why = hildrasp_why(sheet, 51, 3);
     HOLDS(why.no == HILDRASP_SHEET && why.next == 0 && why.rejected == 0 && why.reason == 0);
 }
@@ -117,6 +119,34 @@ static void passes_over_the_last_of_18(void)
     hildrasp_write_sheet(words, 1, records, 18, 1, 1, sheet, 112);
     why = hildrasp_why(sheet, 104, 17);
     HOLDS(why.no == HILDRASP_WORDS && why.next == 0 && why.batch == 1 && why.reason == 0 && why.roll == 0);
+}
+
+/*
+ * Three of five records. Word 2^62 + 1 rolls 1 with bound 4 and 0 with bound 5: 204 takes slot 1, and 205 slot 0. Then
+ * word 1 rolls 0 with bound 3 and 0 with bound 2: slots 0 and 2 are exchanged, and then slots 0 and 1.
+ */
+static void shuffles_its_slots(void)
+{
+    const uint64_t words[2] = {((uint64_t)1 << 62) + 1, 1};
+    const uint32_t records[5] = {201, 202, 203, 204, 205};
+    uint32_t slots[4] = {9, 9, 9, 9};
+    hildrasp_answer sampled = hildrasp_sample(words, 1, 0, records, 5, 3, slots, 4);
+    HOLDS(sampled.no == HILDRASP_WORDS && sampled.next == 0 && sampled.rejected == 0 && sampled.batch == 1);
+    HOLDS(slots[0] == 9 && slots[1] == 9 && slots[2] == 9 && slots[3] == 9);
+    sampled = hildrasp_sample(words, 2, 0, records, 5, 3, slots, 4);
+    HOLDS(sampled.no == 0 && sampled.next == 2 && sampled.rejected == 0 && sampled.batch == 0);
+    HOLDS(slots[0] == 204 && slots[1] == 203 && slots[2] == 205 && slots[3] == 9);
+
+    uint8_t sheet[60];
+    HOLDS(hildrasp_write_sheet(words, 2, records, 5, 3, 1, sheet, 60).length == 60);
+    hildrasp_reason first = hildrasp_why(sheet, 60, 0), third = hildrasp_why(sheet, 60, 2);
+    hildrasp_reason fourth = hildrasp_why(sheet, 60, 3), fifth = hildrasp_why(sheet, 60, 4);
+    HOLDS(first.reason == HILDRASP_TAKEN && first.slot == 0 && first.final_slot == 0);
+    HOLDS(first.by_place == 4 && first.by_step == 1 && first.roll == 0);
+    HOLDS(third.reason == HILDRASP_STAYED && third.slot == 2 && third.final_slot == 1);
+    HOLDS(third.by_place == 0 && third.by_step == 0 && third.roll == 0);
+    HOLDS(fourth.reason == HILDRASP_ROLLED_IN && fourth.slot == 1 && fourth.final_slot == 0);
+    HOLDS(fifth.reason == HILDRASP_ROLLED_IN && fifth.slot == 0 && fifth.final_slot == 2);
 }
 
 /* Writing is refused 2 for these counts of words and records, both lists in the same zeros, which are not looked at. */
@@ -202,6 +232,7 @@ int main(void)
     is_written_and_read(sheet);
     has_its_reasons(sheet);
     passes_over_the_last_of_18();
+    shuffles_its_slots();
     lists_of_4_gib_are_too_long();
 
     uint64_t place = 9;

@@ -71,6 +71,7 @@ fn a_sample_can_meet_2_3_6_9_10() {
     assert_eq!(sample(&[1], 0, &[5, 6], 2, &mut [0]), Err(Refusal::Room));
     assert_eq!(sample(&[1], 2, &[5, 6], 1, &mut [0]), Err(Refusal::Start));
     assert_eq!(sample(&[1], 0, &[5; 30], 1, &mut [0]), Err(Refusal::Words { batch: 1 }));
+    assert_eq!(sample(&[1], 0, &[5; 3], 2, &mut [0; 2]), Err(Refusal::Words { batch: 1 }));
 }
 
 #[test]
@@ -87,6 +88,7 @@ fn a_sheet_can_meet_1_3_6_10() {
     assert_eq!(run_sheet(&sheet(&[0, 1], 1, 2), &mut [0]), Err(Refusal::Sample));
     assert_eq!(run_sheet(&sheet(&[0, 1], 1, 1), &mut []), Err(Refusal::Room));
     assert_eq!(run_sheet(&sheet(&[0], 1, 1), &mut [0]), Err(Refusal::Words { batch: 0 }));
+    assert_eq!(run_sheet(&sheet(&[1], 2, 1), &mut [0; 2]), Err(Refusal::Words { batch: 1 }));
 }
 
 #[test]
@@ -114,20 +116,22 @@ fn why_a_record_was_drawn_or_not_can_meet_1_3_7_10() {
     assert_eq!(why(&sheet(&[0], 1, 1), 0), Err(Refusal::Words { batch: 0 }));
     let two_batches = sheets::laid_out(&[u64::MAX], &[7; 18], 1, 1, [0; 3], false);
     assert_eq!(why(&two_batches, 0), Err(Refusal::Words { batch: 1 }));
+    assert_eq!(why(&sheet(&[1], 2, 1), 0), Err(Refusal::Words { batch: 1 }));
 }
 
 #[test]
 fn a_reason_carries_its_number_and_what_it_names() {
-    // The bounds are 3 and 4. Word 0 is rejected, and word 5 x 2^61 gives the rolls 1 and 3.
-    let sheet = sheets::laid_out(&[0, 5 << 61], &[101, 205, 307, 409], 2, 1, [0; 3], false);
+    // The bounds are 3 and 4. Word 0 is rejected, and word 5 x 2^61 gives the rolls 1 and 3. Then the bound is 2, and
+    // word 0 exchanges the two slots.
+    let sheet = sheets::laid_out(&[0, 5 << 61, 0], &[101, 205, 307, 409], 2, 1, [0; 3], false);
     let reasons = [
-        (Reason::Stayed { slot: 0 }, 1),
+        (Reason::Stayed { slot: 0, final_slot: 1 }, 1),
         (Reason::Taken { slot: 1, by_place: 2, by_step: 0 }, 3),
-        (Reason::RolledIn { slot: 1 }, 2),
+        (Reason::RolledIn { slot: 1, final_slot: 0 }, 2),
         (Reason::PassedOver { roll: 3 }, 4),
     ];
     for (place, (reason, number)) in reasons.into_iter().enumerate() {
-        assert_eq!(why(&sheet, place), Ok(Explanation { used: Used { next: 2, rejected: 1 }, reason }));
+        assert_eq!(why(&sheet, place), Ok(Explanation { used: Used { next: 3, rejected: 1 }, reason }));
         assert_eq!(reason.number(), number);
     }
 }

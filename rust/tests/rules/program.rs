@@ -53,13 +53,24 @@ fn agrees(input: &[u8]) {
 
 #[test]
 fn a_draw_prints_its_numbers_and_a_line_for_each_slot() {
-    // These words leave the first k records in their slots.
+    // These words leave the first k records in their slots, and the slots as they are in the final shuffle.
     let words = [u64::MAX; 3];
     let records = [4_294_967_295, 0, 1_000_000_000, 7];
     let sheet = |k, w| laid_out(&words, &records, k, w, [0; 3], false);
     assert_eq!(prints(&sheet(1, 0)), "draw 4 1 1 0\n1 4294967295 late\n");
-    assert_eq!(prints(&sheet(3, 2)), "draw 4 3 1 0\n1 4294967295 early\n2 0 early\n3 1000000000 late\n");
-    assert_eq!(prints(&sheet(4, 4)), "draw 4 4 0 0\n1 4294967295 early\n2 0 early\n3 1000000000 early\n4 7 early\n");
+    assert_eq!(prints(&sheet(3, 2)), "draw 4 3 2 0\n1 4294967295 early\n2 0 early\n3 1000000000 late\n");
+    assert_eq!(prints(&sheet(4, 4)), "draw 4 4 1 0\n1 4294967295 early\n2 0 early\n3 1000000000 early\n4 7 early\n");
+}
+
+#[test]
+fn the_first_w_slots_after_the_final_shuffle_are_early_and_the_others_late() {
+    // The highest word passes record 7 over. With bounds 3 and 2 the word 0 is rejected, and word 1 rolls 0 and 0: the
+    // record of slot 0 is exchanged with that of slot 2, and what then stands in slot 0 with that of slot 1.
+    let draw = |w| prints(&laid_out(&[u64::MAX, 0, 1], &[101, 205, 309, 7], 3, w, [0; 3], false));
+    assert_eq!(draw(0), "draw 4 3 3 1\n1 205 late\n2 309 late\n3 101 late\n");
+    assert_eq!(draw(1), "draw 4 3 3 1\n1 205 early\n2 309 late\n3 101 late\n");
+    assert_eq!(draw(2), "draw 4 3 3 1\n1 205 early\n2 309 early\n3 101 late\n");
+    assert_eq!(draw(3), "draw 4 3 3 1\n1 205 early\n2 309 early\n3 101 early\n");
 }
 
 #[test]
@@ -67,10 +78,15 @@ fn a_refusal_prints_one_line_with_its_number_and_the_batch() {
     let records = in_place(50);
     assert_eq!(prints(&laid_out(&[], &records, 51, 0, [0; 3], false)), "refused 3 0\n");
     assert_eq!(prints(&laid_out(&[], &records, 5, 6, [0; 3], false)), "refused 3 0\n");
-    // The bounds 6, .., 50 are four batches.
-    for batch in 0..4 {
-        let sheet = laid_out(&[u64::MAX; 4][..batch], &records, 5, 5, [0; 3], false);
-        assert_eq!(prints(&sheet), format!("refused 10 {batch}\n"));
+    // The bounds 6, .., 50 are four batches, and so are 14, .., 50: 14..26, 27..37, 38..47 and 48..50. The final
+    // shuffle of 5 slots is one batch; that of 13 is two, of six rolls each.
+    for (k, batches) in [(5, 5), (13, 6)] {
+        for batch in 0..batches {
+            let sheet = laid_out(&[u64::MAX; 6][..batch], &records, k, 5, [0; 3], false);
+            assert_eq!(prints(&sheet), format!("refused 10 {batch}\n"), "k {k}");
+        }
+        let enough = laid_out(&[u64::MAX; 6][..batches], &records, k, 5, [0; 3], false);
+        assert!(prints(&enough).starts_with(&format!("draw 50 {k} {batches} 0\n")), "k {k}");
     }
 }
 
@@ -91,10 +107,24 @@ fn input_shorter_than_24_or_longer_than_65535_bytes_is_refused_1() {
 #[test]
 fn the_program_lends_room_enough_for_the_most_records() {
     let mut generator = Generator::new(91);
+    // So many that there is no room for a word: the room of the program is looked at before that.
     let records = generator.records(16_377);
-    agrees(&laid_out(&[], &records, 16_377, 8000, [0, 0, 3], false));
-    agrees(&laid_out(&[], &records, 16_377, 16_377, [3, 0, 0], true));
-    agrees(&laid_out(&[], &records, 16_377, 0, [0; 3], false));
+    for gaps in [[0, 0, 3], [3, 0, 0], [0; 3]] {
+        assert_eq!(prints(&laid_out(&[], &records, 16_377, 8000, gaps, false)), "refused 10 0\n");
+    }
+    for w in [0, 5000, 11_077] {
+        agrees(&longest_draw(&mut generator, w));
+    }
+}
+
+/// A written sheet with the most records that can all be drawn, w of them for an early review, and 3 bytes past it.
+fn longest_draw(generator: &mut Generator, w: usize) -> Vec<u8> {
+    let (n, k) = sheets::LONGEST_DRAWS[0];
+    let words = sheets::words_that_roll(k, &sheets::rolls_for(generator, n, k));
+    let mut sheet = by_the_library(&words, &generator.records(n), k, w);
+    sheet.extend([0; 3]);
+    assert_eq!((n, sheet.len()), (k, 65_535));
+    sheet
 }
 
 #[test]
@@ -109,7 +139,7 @@ fn input_that_comes_in_pieces_is_read_to_its_end() {
         let sheet = laid_out(&[u64::MAX; 90], &generator.records(300), 20, 7, [1, 2, 3], true);
         assert_eq!(prints_in_pieces(sheet.chunks(size), pause), printed(&sheet), "pieces of {size}");
     }
-    let most = laid_out(&[], &generator.records(16_377), 16_377, 5, [0, 0, 3], false);
+    let most = longest_draw(&mut generator, 5);
     let too_long = [most.as_slice(), &[0]].concat();
     for size in [1000, 32_768, 65_535] {
         assert!(prints_in_pieces(most.chunks(size), pause) == printed(&most), "pieces of {size}");
@@ -150,6 +180,7 @@ fn the_draw_of_a_written_sheet_is_printed_as_by_the_oracle() {
         }
         agrees(&by_the_library(&words, &records, k, w));
     }
+    agrees(&longest_draw(&mut generator, 8000));
     agrees(&by_the_library(&[], &generator.records(16_377), 16_377, 8000));
     agrees(&by_the_library(&[3; 8188], &[5], 1, 0));
 }

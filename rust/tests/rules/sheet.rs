@@ -3,7 +3,7 @@
 use crate::sheets::{self, change_number, laid_out, written};
 use crate::support::{cases, choices, in_place, run_sheet, sample, sheet_refused, thinned, Generator, Lent};
 use hildrasp::oracle::{plan, run::run};
-use hildrasp::Numbers;
+use hildrasp::{raw, Numbers};
 use std::collections::BTreeSet;
 
 /// The number that the library gives for a sheet, with room enough.
@@ -11,7 +11,8 @@ fn number_for(sheet: &[u8]) -> u64 {
     run_sheet(sheet, 16_384).0.no
 }
 
-/// A sheet of this length whose two areas lie as given; it asks for all its records, and so needs no word.
+/// A sheet of this length whose two areas lie as given; it asks for all its records. Its words are filled as gaps are;
+/// the first is accepted, and does for up to three records.
 fn with_areas(length: usize, (words, words_at): (u32, u32), (records, records_at): (u32, u32)) -> Vec<u8> {
     written(length, Numbers { words, words_at, records, records_at, k: records, w: 0 }, &[], &[])
 }
@@ -72,10 +73,12 @@ fn the_areas_share_no_byte() {
 fn an_empty_area_shares_no_byte_wherever_it_lies() {
     // The other area is the bytes 40 to 79.
     for offset in 0..=130 {
-        let no = if (24..=120).contains(&offset) { 0 } else { 1 };
+        let is_sound = (24..=120).contains(&offset);
+        // Without words there is none to shuffle the records.
+        let no = if is_sound { 10 } else { 1 };
         assert_eq!(number_for(&with_areas(120, (0, offset), (10, 40))), no, "empty words at {offset}");
         // Without records no k is right.
-        let no = if no == 0 { 3 } else { 1 };
+        let no = if is_sound { 3 } else { 1 };
         assert_eq!(number_for(&with_areas(120, (5, 40), (0, offset))), no, "empty records at {offset}");
         assert_eq!(number_for(&with_areas(120, (0, 24), (0, offset))), no, "both empty, records at {offset}");
         assert_eq!(number_for(&with_areas(120, (0, offset), (0, 24))), no, "both empty, words at {offset}");
@@ -112,7 +115,7 @@ fn an_area_may_grow_into_a_gap_and_no_further() {
 
 #[test]
 fn gaps_may_hold_anything() {
-    let (words, records) = ([0, 1, 5 << 60, u64::MAX, 7], in_place(40));
+    let (words, records) = ([0, 1, 5 << 60, u64::MAX, 7, 3], in_place(40));
     for records_first in [false, true] {
         let sheet = laid_out(&words, &records, 3, 2, [5, 7, 9], records_first);
         let drawn = run_sheet(&sheet, 3);
@@ -161,24 +164,27 @@ fn the_six_numbers_come_back_with_the_draw() {
 #[test]
 fn the_longest_sheets_are_drawn_from() {
     let mut generator = Generator::new(82);
-    // The most records that fit, all of them asked for.
-    let records = generator.records(16_377);
-    let sheet = laid_out(&[], &records, 16_377, 16_377, [0, 0, 3], false);
-    assert_eq!(sheet.len(), 65_535);
-    let (drawn, slots) = run_sheet(&sheet, 16_377);
-    assert_eq!((drawn.no, drawn.next, drawn.numbers.k), (0, 0, 16_377));
-    assert_eq!(slots, Lent::holding(16_377, &records));
-    // The most words that fit beside one record.
-    assert_eq!(number_for(&laid_out(&[3; 8188], &[5], 1, 0, [0, 0, 3], true)), 0);
-    // Some records of many, with the words that they need, and then without the last of them.
-    for n in [8000, 10_000] {
-        let plan = plan::sample(n, 64);
-        let words = generator.words_for_plan(&plan);
+    for (n, k) in sheets::LONGEST_DRAWS {
+        let words = sheets::words_that_roll(k, &sheets::rolls_for(&mut generator, n, k));
         let records = generator.records(n);
-        let sheet = |words| laid_out(words, &records, 64, 9, [0; 3], true);
-        assert_eq!(number_for(&sheet(&words)), 0);
-        assert_eq!(run_sheet(&sheet(&words[..words.len() - 1]), 64).0, sheet_refused(10, plan.len() - 1));
+        let (sampled, slots) = sample(&words, 0, &records, k, k);
+        let sheet = |words| laid_out(words, &records, k as u32, 1, [0; 3], true);
+        let (drawn, lent) = run_sheet(&sheet(&words), k);
+        assert_eq!((drawn.no, drawn.next, sampled.next), (0, words.len(), words.len()), "{k} of {n}");
+        assert_eq!(lent, slots, "{k} of {n}");
+        let without_the_last = run_sheet(&sheet(&words[..words.len() - 1]), k);
+        assert_eq!(without_the_last, (sheet_refused(10, words.len() - 1), Lent::with_room(k)), "{k} of {n}");
+        // With one record more the sheet would be too long.
+        let longer = 24 + 8 * plan::sample(n + 1, k).len() + 4 * (n + 1);
+        assert!(sheet(&words).len() <= 65_535 && longer > 65_535, "{k} of {n}");
     }
+    // The most records that fit leave no room for a word, and the most words room for one record, which needs none.
+    let most_records = laid_out(&[], &generator.records(16_377), 16_377, 16_377, [0, 0, 3], false);
+    assert_eq!(run_sheet(&most_records, 16_377), (sheet_refused(10, 0), Lent::with_room(16_377)));
+    let most_words = laid_out(&[3; 8188], &[5], 1, 0, [0, 0, 3], true);
+    let (drawn, slots) = run_sheet(&most_words, 2);
+    assert_eq!((drawn.no, drawn.next, slots), (0, 0, Lent::holding(2, &[5])));
+    assert_eq!([most_records.len(), most_words.len()], [65_535; 2]);
 }
 
 // ---- Refusals ----
@@ -216,25 +222,42 @@ fn a_lent_list_that_is_too_short_is_refused_6() {
 }
 
 #[test]
-fn words_that_run_out_at_any_batch_leave_the_slots_as_they_were() {
+fn words_that_end_at_any_batch_of_the_reservoir_or_of_the_final_shuffle_leave_the_slots_as_they_were() {
     let mut generator = Generator::new(83);
-    let records = generator.records(100);
-    let plan = plan::sample(100, 2);
-    let words = generator.words_for_plan(&plan);
-    let trace = run(&plan, &words, 0).unwrap_or_else(|refusal| panic!("words made for the plan: {refusal}"));
-    for length in 0..words.len() {
-        let batch = trace.batches.iter().filter(|taken| taken.place < length).count();
-        let sheet = laid_out(&words[..length], &records, 2, 1, [0; 3], false);
-        assert_eq!(run_sheet(&sheet, 5), (sheet_refused(10, batch), Lent::with_room(5)));
+    for (n, k) in [(3, 2), (8, 8), (60, 40), (100, 2), (700, 513), (530, 530)] {
+        let records = generator.records(n);
+        let plan = plan::sample(n, k);
+        let words = generator.words_for_plan(&plan);
+        let trace = run(&plan, &words, 0).unwrap_or_else(|refusal| panic!("words made for the plan: {refusal}"));
+        for length in 0..words.len() {
+            let batch = trace.batches.iter().filter(|taken| taken.place < length).count();
+            let sheet = laid_out(&words[..length], &records, k as u32, 1, [0; 3], false);
+            let wanted = (sheet_refused(10, batch), Lent::with_room(k + 3));
+            assert_eq!(run_sheet(&sheet, k + 3), wanted, "{k} of {n}, {length} words");
+        }
+        assert_eq!(number_for(&laid_out(&words, &records, k as u32, 1, [0; 3], false)), 0, "{k} of {n}");
     }
-    assert_eq!(number_for(&laid_out(&words, &records, 2, 1, [0; 3], false)), 0);
+}
+
+#[test]
+fn a_draw_is_refused_10_for_the_batch_that_its_sample_is() {
+    let mut generator = Generator::new(86);
+    for (n, k) in (1..=30).flat_map(|n| (1..=n).map(move |k| (n, k))) {
+        let records = generator.records(n);
+        let mut words = generator.words_for_plan(&plan::sample(n, k));
+        words.truncate(generator.below(words.len() + 1));
+        let (raw::Answer { no, next, rejected, batch }, slots) = sample(&words, 0, &records, k, k + 1);
+        let (drawn, lent) = run_sheet(&laid_out(&words, &records, k as u32, 0, [0; 3], false), k + 1);
+        assert_eq!([drawn.next, drawn.rejected, drawn.batch], [next, rejected, batch], "{k} of {n}");
+        assert_eq!((drawn.no, lent), (no, slots), "{k} of {n}");
+    }
 }
 
 #[test]
 fn of_any_refusals_that_meet_the_lowest_number_is_given() {
     let records = in_place(50);
-    // The bounds 6, .., 50 are cut into four batches: 6..20, 21..31, 32..41 and 42..50.
-    let enough = [u64::MAX; 4];
+    // The bounds 6, .., 50 are cut into four batches: 6..20, 21..31, 32..41 and 42..50. The final shuffle is the fifth.
+    let enough = [u64::MAX; 5];
     // k and w that are not allowed: w above k, k above n, k of 0.
     for (wrong_k, wrong_w) in [(5, 6), (51, 3), (u32::MAX, 3), (0, 0)] {
         for wrong in choices(&[1, 3, 6, 10]) {
@@ -242,7 +265,7 @@ fn of_any_refusals_that_meet_the_lowest_number_is_given() {
             if is_wrong(3) && is_wrong(6) && wrong_k == 0 {
                 continue; // No room is too short for a k of 0.
             }
-            let words = if is_wrong(10) { &enough[..3] } else { &enough };
+            let words = if is_wrong(10) { &enough[..4] } else { &enough };
             let (k, w) = if is_wrong(3) { (wrong_k, wrong_w) } else { (5, 5) };
             let room = if is_wrong(6) { 4 } else { 60 };
             let mut sheet = laid_out(words, &records, k, w, [0; 3], false);
@@ -251,9 +274,9 @@ fn of_any_refusals_that_meet_the_lowest_number_is_given() {
             }
             let (drawn, slots) = run_sheet(&sheet, room);
             match wrong.first() {
-                Some(10) => assert_eq!(drawn, sheet_refused(10, 3)),
+                Some(10) => assert_eq!(drawn, sheet_refused(10, 4)),
                 Some(&lowest) => assert_eq!(drawn, sheet_refused(lowest, 0), "wrong {wrong:?}, k {k}, w {w}"),
-                None => assert_eq!((drawn.no, drawn.next), (0, 4)),
+                None => assert_eq!((drawn.no, drawn.next), (0, 5)),
             }
             assert_eq!(slots == Lent::with_room(room), !wrong.is_empty(), "wrong {wrong:?}, k {k}, w {w}");
         }

@@ -93,18 +93,22 @@ pub fn n_to_draw_from(generator: &mut Generator, n: usize) -> (Vec<u64>, Vec<u32
 /// Counts of records, each with a k: with one record more, the words of the draw, one for each batch, would not fit on
 /// the sheet beside the records.
 pub const LONGEST_DRAWS: [(usize, usize); 7] =
-    [(16_377, 16_377), (16_375, 16_371), (16_000, 15_248), (14_000, 9_248), (12_000, 3_248), (11_125, 64), (11_117, 1)];
+    [(11_077, 11_077), (11_077, 11_073), (11_076, 8_192), (11_076, 3_248), (11_097, 2_048), (11_110, 64), (11_117, 1)];
 
-/// Rolls for a sample of k from n records. Half of them are low, so that the first slots change hands often.
+/// Rolls for a sample of k from n records: the reservoir's, half of them low, so that the first slots change hands
+/// often; then those of the final shuffle.
 pub fn rolls_for(generator: &mut Generator, n: usize, k: usize) -> Vec<u64> {
-    let roll = |place: usize| {
+    let mut rolls = Vec::new();
+    for place in k..n {
         let bound = generator.one_of(&[k.min(5), place + 1]);
-        generator.below(bound) as u64
-    };
-    (k..n).map(roll).collect()
+        rolls.push(generator.below(bound) as u64);
+    }
+    rolls.extend((2..=k).rev().map(|bound| generator.below(bound) as u64));
+    rolls
 }
 
-/// The words, one for each batch, that give these rolls in a sample of k records.
+/// The words, one for each batch, that give these rolls in a sample of k records. From n records the reservoir has
+/// n - k rolls, and the final shuffle k - 1.
 pub fn words_that_roll(k: usize, rolls: &[u64]) -> Vec<u64> {
     let mut left = rolls;
     let word = |bounds: &Vec<u64>| {
@@ -112,7 +116,7 @@ pub fn words_that_roll(k: usize, rolls: &[u64]) -> Vec<u64> {
         left = later;
         word::run_of_words(word::L, bounds, of_this_batch).0
     };
-    plan::sample(k + rolls.len(), k).iter().map(word).collect()
+    plan::sample(rolls.len() + 1, k).iter().map(word).collect()
 }
 
 /// A sheet made to be drawn from.

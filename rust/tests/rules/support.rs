@@ -454,16 +454,16 @@ pub fn sheet_refused(no: u64, batch: usize) -> Drawn {
 
 /// A reason in a draw that used these words; fields that do not apply are 0.
 pub fn explained(next: usize, rejected: usize, reason: Reason) -> raw::Reason {
-    let (number, [slot, by_place, by_step], roll) = match reason {
-        Reason::Stayed { slot } => (1, [slot, 0, 0], 0),
-        Reason::RolledIn { slot } => (2, [slot, 0, 0], 0),
-        Reason::Taken { slot, by_place, by_step } => (3, [slot, by_place, by_step], 0),
-        Reason::PassedOver { roll } => (4, [0, 0, 0], roll),
+    let (number, [slot, final_slot, by_place, by_step], roll) = match reason {
+        Reason::Stayed { slot, final_slot } => (1, [slot, final_slot, 0, 0], 0),
+        Reason::RolledIn { slot, final_slot } => (2, [slot, final_slot, 0, 0], 0),
+        Reason::Taken { slot, by_place, by_step } => (3, [slot, 0, by_place, by_step], 0),
+        Reason::PassedOver { roll } => (4, [0; 4], roll),
     };
-    raw::Reason { no: 0, next, rejected, batch: 0, reason: number, slot, by_place, by_step, roll }
+    raw::Reason { no: 0, next, rejected, batch: 0, reason: number, slot, final_slot, by_place, by_step, roll }
 }
 
 /// A reason that was not given.
 pub fn why_refused(no: u64, batch: usize) -> raw::Reason {
-    raw::Reason { no, next: 0, rejected: 0, batch, reason: 0, slot: 0, by_place: 0, by_step: 0, roll: 0 }
+    raw::Reason { no, next: 0, rejected: 0, batch, reason: 0, slot: 0, final_slot: 0, by_place: 0, by_step: 0, roll: 0 }
 }

@@ -231,8 +231,16 @@ fn every_sample_of_up_to_7_records_is_the_same_both_ways() {
         let records = generator.records(n);
         for k in 0..=n + 1 {
             let b = word::product(&(k as u64 + 1..=n as u64).collect::<Vec<u64>>());
+            let of_the_shuffle = (2..=k as u128).product();
             for word in words_around_every_edge(b) {
-                sample(&[word, generator.word_for(b)], 0, &records, k, k);
+                let words = [word, generator.word_for(b), generator.word_for(of_the_shuffle)];
+                sample(&words, 0, &records, k, k);
+            }
+            // The highest word is accepted by the reservoir, where there is one.
+            let of_the_reservoir = vec![u64::MAX; plan::reservoir(n, k).len()];
+            for word in words_around_every_edge(of_the_shuffle) {
+                let words = [&of_the_reservoir[..], &[word, generator.word_for(of_the_shuffle)]].concat();
+                sample(&words, 0, &records, k, k);
             }
             sample(&[], 0, &records, k, k.saturating_sub(1));
             sample(&[], 1, &records, k, k);
@@ -246,7 +254,7 @@ fn why_each_of_up_to_6_records_was_drawn_or_not_is_the_same_both_ways() {
     for (n, k) in (1..=6).flat_map(|n| (1..=n).map(move |k| (n, k))) {
         let b = word::product(&(k as u64 + 1..=n as u64).collect::<Vec<u64>>());
         for word in words_around_every_edge(b) {
-            let words = [word, generator.word_for(b)];
+            let words = [word, generator.word_for(b), generator.word_for((2..=k as u128).product())];
             let sheet = laid_out(&words, &generator.records(n), k as u32, 1, [0; 3], false);
             for place in 0..=n {
                 why(&sheet, place);
@@ -285,7 +293,7 @@ fn a_sheet_with_its_areas_at_every_place_is_the_same_both_ways() {
 #[test]
 fn a_sheet_with_every_k_and_w_and_its_text_are_the_same_both_ways() {
     for (n, k, w) in (0..=4).flat_map(|n| (0..=6).flat_map(move |k| (0..=7).map(move |w| (n, k, w)))) {
-        for words in [&[][..], &[0], &[0, 1]] {
+        for words in [&[][..], &[0], &[0, 1], &[0, 1, 1]] {
             let sheet = laid_out(words, &in_place(n), k, w, [0; 3], false);
             prints(&sheet);
             for room in 0..=5 {

@@ -22,9 +22,9 @@ fn threshold(b: u64) -> u64 {
 
 // ---- One pass, a remainder for each batch, the batch size a variable ----
 
-/// The shuffle with one loop for all batch sizes.
-pub fn variable_sizes(words: &[u64], records: &mut [u32]) -> Next {
-    let mut next = 0;
+/// The shuffle with one loop for all batch sizes, from this word on.
+pub fn variable_sizes(words: &[u64], start: usize, records: &mut [u32]) -> Next {
+    let mut next = start;
     let mut m = records.len();
     while m > 1 {
         let size = match m {
@@ -66,19 +66,19 @@ enum Remainder {
     Rarely,
 }
 
-/// The shuffle with a remainder for each batch.
-pub fn constant_sizes(words: &[u64], records: &mut [u32]) -> Next {
-    phases(words, records, Remainder::Always)
+/// The shuffle with a remainder for each batch, from this word on.
+pub fn constant_sizes(words: &[u64], start: usize, records: &mut [u32]) -> Next {
+    phases(words, start, records, Remainder::Always)
 }
 
 /// The shuffle with a remainder only where the last r is below the product.
 pub fn rare_remainders(words: &[u64], records: &mut [u32]) -> Next {
-    phases(words, records, Remainder::Rarely)
+    phases(words, 0, records, Remainder::Rarely)
 }
 
 #[inline(always)]
-fn phases(words: &[u64], records: &mut [u32], remainder: Remainder) -> Next {
-    let mut next = 0;
+fn phases(words: &[u64], start: usize, records: &mut [u32], remainder: Remainder) -> Next {
+    let mut next = start;
     let mut m = records.len();
     while m > 2048 {
         next = batch::<4>(words, next, records, m, remainder)?;
@@ -139,8 +139,20 @@ pub fn unbatched(words: &[u64], records: &mut [u32]) -> Next {
 
 // ---- The sample ----
 
+/// The reservoir, then the shuffle of its slots with one loop for all batch sizes.
+pub fn sample_by_variable_sizes(words: &[u64], records: &[u32], k: usize, slots: &mut [u32]) -> Next {
+    let next = reservoir(words, records, k, slots)?;
+    variable_sizes(words, next, &mut slots[..k])
+}
+
+/// The reservoir, then the shuffle of its slots with a loop for each constant batch size.
+pub fn sample_by_constant_sizes(words: &[u64], records: &[u32], k: usize, slots: &mut [u32]) -> Next {
+    let next = reservoir(words, records, k, slots)?;
+    constant_sizes(words, next, &mut slots[..k])
+}
+
 /// The reservoir with a remainder for each batch.
-pub fn sample(words: &[u64], records: &[u32], k: usize, slots: &mut [u32]) -> Next {
+fn reservoir(words: &[u64], records: &[u32], k: usize, slots: &mut [u32]) -> Next {
     slots[..k].copy_from_slice(&records[..k]);
     let mut next = 0;
     let mut i = k;

@@ -17,6 +17,7 @@ fn main() {
     shuffles(512, 64);
     shuffles(16_384, 2);
     samples(64, 16_384, 2);
+    samples(8_192, 16_384, 2);
     ways_back(16_384, 2);
 }
 
@@ -39,8 +40,8 @@ fn shuffles(n: usize, calls: u32) {
         let mut records = records.clone();
         (shuffle(&mut records), records)
     };
-    let variable_sizes = |records: &mut [u32]| contestants::variable_sizes(&words, records);
-    let constant_sizes = |records: &mut [u32]| contestants::constant_sizes(&words, records);
+    let variable_sizes = |records: &mut [u32]| contestants::variable_sizes(&words, 0, records);
+    let constant_sizes = |records: &mut [u32]| contestants::constant_sizes(&words, 0, records);
     let rare_remainders = |records: &mut [u32]| contestants::rare_remainders(&words, records);
     let unbatched = |records: &mut [u32]| contestants::unbatched(&words, records);
     let wanted = shuffled(&library);
@@ -65,16 +66,24 @@ fn samples(k: usize, n: usize, calls: u32) {
     let words = words(n);
     let records: Vec<u32> = (0..n as u32).collect();
     let library = |slots: &mut [u32]| hildrasp::sample(&words, 0, &records, k, slots).ok().map(|used| used.next);
-    let one_pass = |slots: &mut [u32]| contestants::sample(&words, &records, k, slots);
-    let (mut slots, mut wanted) = (vec![0; k], vec![0; k]);
-    let next = library(&mut wanted);
-    assert!(next.is_some() && next == one_pass(&mut slots) && slots == wanted, "equal words give equal slots");
+    let variable_sizes = |slots: &mut [u32]| contestants::sample_by_variable_sizes(&words, &records, k, slots);
+    let constant_sizes = |slots: &mut [u32]| contestants::sample_by_constant_sizes(&words, &records, k, slots);
+    let slots = vec![0; k];
+    let sampled = |sample: &dyn Fn(&mut [u32]) -> contestants::Next| {
+        let mut slots = slots.clone();
+        (sample(&mut slots), slots)
+    };
+    let wanted = sampled(&library);
+    assert!(wanted.0.is_some(), "the words suffice");
+    assert!(wanted == sampled(&variable_sizes), "equal words give equal slots");
+    assert!(wanted == sampled(&constant_sizes), "equal words give equal slots");
     race(
         &format!("sample of {k} from {n} records"),
         calls,
         vec![
             ("the library", timed(&slots, library)),
-            ("one pass, a remainder for each batch", timed(&slots, one_pass)),
+            ("one pass, a remainder for each batch, variable size", timed(&slots, variable_sizes)),
+            ("one pass, a remainder for each batch, constant sizes", timed(&slots, constant_sizes)),
         ],
     );
 }

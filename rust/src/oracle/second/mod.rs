@@ -10,8 +10,10 @@
 //! | acceptance | the last r against a threshold | each series of rolls keeps as many words as any other, its last |
 //! | products, the cut | multiplies; a bound joins or not | divides; every end of a batch is tried |
 //! | shuffle | exchanges records | takes from the last place on, along links; no record moves |
-//! | sample | overwrites slots | follows each record: its slot, and whether a later record takes it |
+//! | reservoir | overwrites slots | follows each record: its slot, and whether a later record takes it |
+//! | sample | one plan of both parts | rolls the reservoir; from the word after it rolls again, for the shuffle |
 //! | why a record was drawn or not | fills slots with places, and notes who is put out | sorts all that held a slot |
+//! | its final slot | shuffles all slots | follows one slot from roll to roll |
 //! | words behind rolls | a quotient | a search among all words |
 //! | rolls behind an order | shuffles, and looks records up | follows each record through the rolls before |
 //! | sheet | areas as ranges of bytes | marks the bytes one by one |
@@ -154,14 +156,29 @@ pub fn sample(words: &[u64], start: usize, records: &[u32], k: usize, lent: &mut
 fn sampled(words: &[u64], start: usize, records: &[u32], k: usize, room: usize) -> Outcome<u32> {
     let n = records.len();
     refuse(start, &[(2, n > MAX_RECORDS), (3, !(1..=n).contains(&k)), (6, room < k), (9, start > words.len())])?;
-    let (answer, rolls) = roll_sample(words, start, n, k)?;
-    Ok((answer, records::sampled(records, k, &rolls)))
+    let rolled = roll_sample(words, start, n, k)?;
+    let slots = records::reservoir(records, k, &rolled.of_the_reservoir);
+    Ok((rolled.answer, records::shuffled(&slots, &rolled.of_the_shuffle)))
 }
 
-/// The rolls of a sample of k from n records, where there is one.
-fn roll_sample(words: &[u64], start: usize, n: usize, k: usize) -> Outcome<u64> {
-    let bounds: Vec<u64> = (1..=n as u64).skip(k).collect();
-    roll(words, start, &by_cut(&bounds))
+/// The rolls of a sample, and its answer.
+struct SampleRolls {
+    answer: Answer,
+    of_the_reservoir: Vec<u64>,
+    of_the_shuffle: Vec<u64>,
+}
+
+/// The rolls of a sample of k from n records, where there is one. Where the words end in the final shuffle, the
+/// reservoir's batches are counted in.
+fn roll_sample(words: &[u64], start: usize, n: usize, k: usize) -> Result<SampleRolls, Answer> {
+    let upwards: Vec<u64> = (1..=n as u64).skip(k).collect();
+    let batches = by_cut(&upwards);
+    let (reservoir, of_the_reservoir) = roll(words, start, &batches)?;
+    let downwards: Vec<u64> = (2..=k as u64).rev().collect();
+    let (shuffle, of_the_shuffle) = roll(words, reservoir.next, &by_size(&downwards))
+        .map_err(|refusal| refused(refusal.no, start, batches.len() + refusal.batch))?;
+    let answer = Answer { rejected: reservoir.rejected + shuffle.rejected, ..shuffle };
+    Ok(SampleRolls { answer, of_the_reservoir, of_the_shuffle })
 }
 
 /// Names the rolls behind an order in the lent list.
@@ -240,6 +257,7 @@ fn explained(sheet: &[u8], place: usize) -> Result<Reason, Answer> {
     let (numbers, words, records) = sheet::read(sheet).ok_or(refused(1, 0, 0))?;
     let (k, n) = (numbers.k as usize, records.len());
     refuse(0, &[(3, !has_a_sample(numbers)), (7, !(0..n).contains(&place))])?;
-    let (Answer { next, rejected, .. }, rolls) = roll_sample(&words, 0, n, k)?;
-    Ok(Reason { next, rejected, ..records::reason(place, k, &rolls) })
+    let SampleRolls { answer, of_the_reservoir, of_the_shuffle } = roll_sample(&words, 0, n, k)?;
+    let reason = records::reason(place, k, &of_the_reservoir, &of_the_shuffle);
+    Ok(Reason { next: answer.next, rejected: answer.rejected, ..reason })
 }

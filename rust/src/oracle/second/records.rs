@@ -27,9 +27,9 @@ fn end_of_links(links: &[usize], mut place: usize) -> usize {
     place
 }
 
-/// The sample by each record's slot: of the first k their own place, of the others their roll where it is below k. A
+/// The reservoir by each record's slot: of the first k their own place, of the others their roll where it is below k. A
 /// record keeps its slot unless a later roll is that slot.
-pub fn sampled(records: &[u32], k: usize, rolls: &[u64]) -> Vec<u32> {
+pub fn reservoir(records: &[u32], k: usize, rolls: &[u64]) -> Vec<u32> {
     let mut kept = Vec::new();
     for (place, &record) in records.iter().enumerate() {
         let (slot, later_rolls) = match place.checked_sub(k) {
@@ -46,7 +46,7 @@ pub fn sampled(records: &[u32], k: usize, rolls: &[u64]) -> Vec<u32> {
 
 /// Why the record at a place was drawn or not. All that ever held a slot stand in one row, by slot and then by place:
 /// the next in the row, if it held the same slot, took it. Who never held a slot is not in the row.
-pub fn reason(place: usize, k: usize, rolls: &[u64]) -> Reason {
+pub fn reason(place: usize, k: usize, rolls: &[u64], of_the_shuffle: &[u64]) -> Reason {
     let slots = (0..k as u64).chain(rolls.iter().copied());
     let mut row: Vec<(u64, usize)> = slots.zip(0..).filter(|&(slot, _)| slot < k as u64).collect();
     row.sort_unstable();
@@ -57,8 +57,27 @@ pub fn reason(place: usize, k: usize, rolls: &[u64]) -> Reason {
     let held = Reason { slot: slot as usize, ..Reason::default() };
     match row.get(at + 1) {
         Some(&(same, next)) if same == slot => Reason { reason: 3, by_place: next, by_step: next - k, ..held },
-        _ => Reason { reason: if place < k { 1 } else { 2 }, ..held },
+        _ => Reason {
+            reason: if place < k { 1 } else { 2 },
+            final_slot: final_slot(held.slot, k, of_the_shuffle),
+            ..held
+        },
     }
+}
+
+/// The slot where the final shuffle leaves the record of this one. From the last slot down, each takes for good the
+/// record that its roll names, and the record that it had goes where the other was taken.
+fn final_slot(slot: usize, k: usize, rolls: &[u64]) -> usize {
+    let mut at = slot;
+    for (last, &roll) in (0..k).rev().zip(rolls) {
+        if at == roll as usize {
+            return last;
+        }
+        if at == last {
+            at = roll as usize;
+        }
+    }
+    at
 }
 
 /// Whether a list is each of 0..n - 1 once: n different records, all of them below n.

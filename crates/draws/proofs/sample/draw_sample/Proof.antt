@@ -1,27 +1,30 @@
--- `draws::sample::draw_sample` meets its contract: the rolls stand in front of a local array, and where the words suffice the reservoir is
--- run with them. Assumes nothing.
+-- `draws::sample::draw_sample` meets its contract: the rolls stand in front of a local array, and where the words suffice the slots are filled by
+-- them. Assumes nothing.
 use mathlib.Core.Path.{_≡_, _∙_, sym, ap}
 use mathlib.Core.List.{List, _++_}
-use Prim.Native.Nat.{ℕ, _+_, _-_, _≤_}
+use Prim.Native.Nat.{ℕ, _-_, _≤_}
 use native.Mathlib.Omega.{arith}
 use lib.ListN.{length, take, drop, replicate}
 use borrow.Author.Tests.{le-ltb}
 use Rattle.rules.specs.Run.{run, trace, rollsOf}
-use Rattle.rules.specs.Reservoir.{reservoir}
+use Rattle.rules.specs.Sample.{sampleWith}
 use Rattle.rules.specs.Width.{w64}
-use Rattle.rules.proofs.Reservoir.{length-sample}
+use Rattle.rules.proofs.Facts.{truth}
+use Rattle.rules.proofs.Samples.{length-drawn}
+use Rattle.answers.specs.Supplied.{supplied}
+use Rattle.answers.specs.declared.supply.Supply.the-variants.{Enough}
 use Rattle.answers.proofs.Deciding.{in-count, refused-seen, done-seen}
 use Rattle.draws.specs.Sample.{samplePlan}
 use Rattle.draws.proofs.OneSample.{sample-short, sample-done}
-use Rattle.draws.proofs.Rolled.{rolled-whole}
-use Rattle.draws.proofs.Sampling.{lent-count, back-fits, back-front, back-count, slots-drawn}
+use Rattle.draws.proofs.Rolled.{rolled-range, rolled-whole}
+use Rattle.draws.proofs.Sampling.{lent-count, back-fits, back-front, back-count}
 use borrow.Author.Needs.{needs}
 use Rattle.draws.proofs.sample.draw_sample.Statement.{statement}
 use Rattle.draws.proofs.sample.draw_sample.Tie as tie
 
--- the number of rolls, n - k
+-- the number of rolls, n - 1
 abbrev roll-total : tie.Start → ℕ
-roll-total s = length (s .args .records .now) - s .args .k
+roll-total s = length (s .args .records .now) - 1
 
 few : (s : tie.Start) → roll-total s ≤ 16384
 few s = omega (arith, s .pre .1)
@@ -42,6 +45,26 @@ written w = back-front 16384 (roll-total (begin w)) (few (begin w)) (w .roll-sam
 front-count : (w : tie.After-roll-sample) → roll-total (begin w) ≡ length (front w)
 front-count w = back-count 16384 (roll-total (begin w)) (few (begin w)) (w .roll-sample .last .1 .1 .1 .1 .0) (w .roll-sample .kept .1 .1 .1 .1 .0)
 
+-- where the words suffice
+abbrev rolled : tie.After-next → tie.After-roll-sample
+rolled u = u .before .before .before
+
+enough : (u : tie.After-next) → let a = begin (rolled u) .args in
+    supplied (a .start) (run 64 (samplePlan w64 (length (a .records .now)) (a .k)) (a .words .now) (a .start)) ≡ Enough (u .next .given .0 .0) (u .next .given .0 .1 .0)
+enough u = sym (rolled u .roll-sample .ensures .0) ∙ u .next .given .1
+
+abbrev rolls-of : tie.Start → List ℕ
+rolls-of s =
+    let plan = samplePlan w64 (length (s .args .records .now)) (s .args .k) in
+    rollsOf 64 plan (trace (run 64 plan (s .args .words .now) (s .args .start)))
+
+rolls : (u : tie.After-next) → front (rolled u) ≡ rolls-of (begin (rolled u))
+rolls u = let w = rolled u in
+    let s = begin w in
+    let a = s .args in
+    written w ∙ w .roll-sample .ensures .1
+    ∙ rolled-whole (a .words .now) (a .start) (length (a .records .now)) (a .k) _ _ (enough u) (s .pre .2) (s .pre .3) (s .pre .1) _ (lent-count 16384 (roll-total s) (few s))
+
 sub-count : tie.Need-sub-count
 sub-count c = search needs
 
@@ -53,26 +76,23 @@ slice-aggregate-roll-sample c = let start = c .before .before .before .before in
 
 roll-sample-requires : tie.Need-roll-sample-requires
 roll-sample-requires c κs = let start = c .before .before .before .before in
-    (start .pre .0, start .pre .1, start .pre .3, omega (arith, lent-count 16384 (roll-total start) (few start)))
+    (start .pre .0, start .pre .1, start .pre .2, start .pre .3, omega (arith, lent-count 16384 (roll-total start) (few start)))
 
 enum-known-next : tie.Need-enum-known-next
 enum-known-next c = search needs
 
-take-first-requires : tie.Need-take-first-requires
-take-first-requires c κs = search needs
-
 array-share-prefix-rolls : tie.Need-array-share-prefix-rolls
-array-share-prefix-rolls c = let w = c .before .before .before .before .before .before .before .before in
+array-share-prefix-rolls c = let w = rolled (c .before) in
     back-fits 16384 (roll-total (begin w)) (few (begin w)) (w .roll-sample .last .1 .1 .1 .1 .0) (w .roll-sample .kept .1 .1 .1 .1 .0)
 
-slice-aggregate-take-later : tie.Need-slice-aggregate-take-later
-slice-aggregate-take-later c = front-count (c .before .before .before .before .before .before .before .before .before)
+slice-aggregate-fill-slots : tie.Need-slice-aggregate-fill-slots
+slice-aggregate-fill-slots c = front-count (rolled (c .before .before))
 
-take-later-requires : tie.Need-take-later-requires
-take-later-requires c κs = let after-take-first = c .before .before .before .before in
-    let w = c .before .before .before .before .before .before .before .before .before .before in
-    let start = begin w in
-    (omega (arith, front-count w, start .pre .3), omega (arith, after-take-first .take-first .kept .1 .1 .0, start .pre .4))
+fill-slots-requires : tie.Need-fill-slots-requires
+fill-slots-requires c κs = let u = c .before .before .before in
+    let s = begin (rolled u) in
+    let a = s .args in
+    (s .pre .3, s .pre .4, rw (rolls u) (truth _ (rolled-range (a .words .now) (a .start) (length (a .records .now)) (a .k) _ _ (enough u) (s .pre .2) (s .pre .3) (s .pre .1) (λ i h. rolled u .before .before .before .before .shared-slice-known .given i .fits))))
 
 done-answer-requires : tie.Need-done-answer-requires
 done-answer-requires c κs = search needs
@@ -87,23 +107,17 @@ same-length : tie.Need-same-length
 same-length c = search needs
 
 returns : tie.Need-returns
-returns c = let after-take-first = c .before .before .before .before .before .before .before .before in
-    let told = c .before .before .before .before .before .before .before .before .before .before .before in
-    let w = told .before .before .before in
-    let start = begin w in
-    let a = start .args in
+returns c = let u = c .before .before .before .before .before .before .before in
+    let s = begin (rolled u) in
+    let a = s .args in
     let n = length (a .records .now) in
-    let r = run 64 (samplePlan w64 n (a .k)) (a .words .now) (a .start) in
-    let js = rollsOf 64 (samplePlan w64 n (a .k)) (trace r) in
-    let e = sym (w .roll-sample .ensures .0) ∙ told .next .given .1 in
-    let rolls = written w ∙ w .roll-sample .ensures .1 ∙ rolled-whole (a .words .now) (a .start) n (a .k) _ _ e _ (lent-count 16384 (roll-total start) (few start)) in
-    done-seen _ _ (a .start) r _ _ (a .slots .now) _ _
+    let rs = rolls-of s in
+    done-seen _ _ (a .start) (run 64 (samplePlan w64 n (a .k)) (a .words .now) (a .start)) _ _ (a .slots .now) _ _
     (sample-done w64 (a .words .now) (a .start) (a .records .now) (a .k) (length (a .slots .now))
-    (in-count 0 16384 n (search needs) (start .pre .1)) (in-count 1 n (a .k) (start .pre .2) (start .pre .3))
-    (le-ltb _ _ (start .pre .4)) (start .pre .0) _ _ e) e (c .done-answer .ensures)
-    (slots-drawn (a .records .now) (a .slots .now) (after-take-first .take-first .last .1 .1 .0) (a .k) js _ (start .pre .3) (after-take-first .take-first .ensures)
-    (c .before .before .before .take-later .ensures ∙ ap (λ (vs : List ℕ). reservoir (take (a .k) (after-take-first .take-first .last .1 .1 .0)) (drop (a .k) (a .records .now)) vs ++ drop (a .k) (after-take-first .take-first .last .1 .1 .0)) rolls)
-    ∙ ap (λ (m : ℕ). reservoir (take (a .k) (a .records .now)) (drop (a .k) (a .records .now)) js ++ drop m (a .slots .now)) (sym (length-sample (a .records .now) js (a .k) (start .pre .3))))
+    (in-count 0 16384 n (search needs) (s .pre .1)) (in-count 1 n (a .k) (s .pre .2) (s .pre .3))
+    (le-ltb _ _ (s .pre .4)) (s .pre .0) _ _ (enough u)) (enough u) (c .done-answer .ensures)
+    (c .before .before .before .fill-slots .ensures ∙ ap (λ (l : List ℕ). sampleWith (a .k) l (a .records .now) ++ drop (a .k) (a .slots .now)) (rolls u)
+    ∙ ap (λ (m : ℕ). sampleWith (a .k) rs (a .records .now) ++ drop m (a .slots .now)) (sym (length-drawn (a .k) rs (a .records .now) (s .pre .3))))
 
 returns-2 : tie.Need-returns-2
 returns-2 c = let told = c .before .before in
@@ -126,10 +140,9 @@ draw-sample-spec =
     slice-aggregate-roll-sample
     roll-sample-requires
     enum-known-next
-    take-first-requires
     array-share-prefix-rolls
-    slice-aggregate-take-later
-    take-later-requires
+    slice-aggregate-fill-slots
+    fill-slots-requires
     done-answer-requires
     enum-known-batch
     refused-answer-requires

@@ -1,5 +1,5 @@
 -- `lists::list::write_list` meets its contract. The loop's invariant: the rolls of the bounds before `at` are written, and the rest of
--- the run suffices (Filling); so no word is missing. The measure is the bounds that are left. Assumes nothing.
+-- the run suffices (Listed); so no word is missing. The measure is the bounds that are left. Assumes nothing.
 use lib.ListN.{length-take, length-drop}
 use mathlib.Core.Path.{_∙_, sym}
 use Prim.Native.Nat.{_-_}
@@ -8,18 +8,18 @@ use borrow.Author.Needs.{needs}
 use lib.ListN.{length}
 use Rattle.rules.specs.Width.{w64}
 use Rattle.lists.proofs.Listing.{cut-place}
-use Rattle.lists.proofs.Filling.{Filling, fill-none, fill-never, fill-turn, fill-done}
+use Rattle.lists.proofs.Filling.{Listed, list-none, list-never, list-turn, list-done}
 use Rattle.lists.proofs.list.write_list.Statement.{statement}
 use Rattle.lists.proofs.list.write_list.Tie as tie
 
 abbrev Inv-loop : tie.InvT-loop
-Inv-loop words start bounds rolls₀ next₀ at₀ rolls next at = Filling w64 words start bounds rolls₀ rolls next at
+Inv-loop words start bounds rolls₀ next₀ at₀ rolls next at = Listed w64 words start bounds rolls₀ rolls next at
 
 abbrev μ-loop : tie.MeasureT-loop
 μ-loop words start bounds rolls₀ next₀ at₀ rolls next at = length bounds - at
 
 loop-holds : tie.Need-loop-holds Inv-loop μ-loop
-loop-holds c = let start = c .before .before .before in fill-none w64 _ _ _ _ (start .pre .0) (start .pre .3)
+loop-holds c = let start = c .before .before .before in list-none w64 _ _ _ _ (start .pre .0) (start .pre .3)
 
 cut-at-requires : tie.Need-cut-at-requires Inv-loop μ-loop
 cut-at-requires c κs = search needs
@@ -71,7 +71,7 @@ loop-again c = let after-cut-at = c .before .before .before .before .before .bef
     let turn = after-cut-at .before .before in
     let start = turn .before .before .before .before in
     let after-word = c .before .before .before .before .before .before in
-    fill-turn w64 _ _ _ _ _ _ _ (turn .loop .inv) (search needs) (start .pre .1) (after-cut-at .cut-at .result) (after-cut-at .cut-at .ensures) _ _ _ (sym (after-word .before .before .find-word .ensures) ∙ after-word .word .given .1) (start .pre .2) _ (c .before .before .write-rolls .ensures)
+    list-turn w64 _ _ _ _ _ _ _ (turn .loop .inv) (search needs) (start .pre .1) (after-cut-at .cut-at .result) (after-cut-at .cut-at .ensures) _ _ _ (sym (after-word .before .before .find-word .ensures) ∙ after-word .word .given .1) (start .pre .2) _ (c .before .before .write-rolls .ensures)
 
 add-next : tie.Need-add-next Inv-loop μ-loop
 add-next c = let v = loop-again c in omega (arith, v .0)
@@ -90,14 +90,14 @@ same-length c = search needs
 returns : tie.Need-returns Inv-loop μ-loop
 returns c = let after-cut-at = c .before .before .before in
     let turn = after-cut-at .before .before in
-    absurd (fill-never w64 _ _ _ _ _ _ _ (turn .loop .inv) (search needs) (turn .before .before .before .before .pre .1) (after-cut-at .cut-at .result) (after-cut-at .cut-at .ensures)
+    absurd (list-never w64 _ _ _ _ _ _ _ (turn .loop .inv) (search needs) (turn .before .before .before .before .pre .1) (after-cut-at .cut-at .result) (after-cut-at .cut-at .ensures)
     (sym (c .before .before .find-word .ensures) ∙ c .enum-told .given .1))
 
 same-length-2 : tie.Need-same-length-2 Inv-loop μ-loop
 same-length-2 c = search needs
 
 returns-2 : tie.Need-returns-2 Inv-loop μ-loop
-returns-2 c = fill-done w64 _ _ _ _ _ _ _ (c .before .loop .inv) (search needs)
+returns-2 c = list-done w64 _ _ _ _ _ _ _ (c .before .loop .inv) (search needs)
 
 pub write-list-spec : {M : Type 1} → statement M
 write-list-spec =

@@ -39,7 +39,7 @@ returns : tie.Need-returns
 returns c = let made = c .before .before .before .before .before in
     let a = begin made .args in
     c .refused-reason .ensures
-    ∙ sym (ap (shownWhy (numbers (a .sheet .now) .k) (a .place)) (why-unread (a .sheet .now) (a .place) _ _ (λ o.
+    ∙ sym (ap (shownWhy (numbers (a .sheet .now) .records) (numbers (a .sheet .now) .k) (a .place)) (why-unread (a .sheet .now) (a .place) _ _ (λ o.
     not-held (a .sheet .now) (replicate 8188 0) (replicate 16377 0) _ _ _ (zeros 8188) (zeros 16377) (made .read-sheet .ensures) (search needs) o .1)))
 
 cast-n : tie.Need-cast-n
@@ -68,7 +68,7 @@ cast-explain c = search needs
 explain-requires : tie.Need-explain-requires
 explain-requires c κs = let passed = c .before .before .before .before .before in
     let size = held-size _ _ _ _ _ _ (read passed) in
-    (omega (arith, size .0), size .2, search needs)
+    (omega (arith, size .0), size .1, size .2, search needs)
 
 returns-3 : tie.Need-returns-3
 returns-3 c = let passed = c .before .before .before .before .before .before in
