@@ -31,69 +31,19 @@ why W s place =
 
 -- Fields that do not apply are 0.
 abbrev pub told : ℕ → ℕ → (ℕ → ℕ) → Fate → Reason
-told next rejected final (Stayed slot) = record {
-  no = 0;
-  next = next;
-  rejected = rejected;
-  batch = 0;
-  reason = 1;
-  slot = slot;
-  «final_slot» = final slot;
-  «by_place» = 0;
-  «by_step» = 0;
-  roll = 0;
-}
-told next rejected final (RolledIn slot) = record {
-  no = 0;
-  next = next;
-  rejected = rejected;
-  batch = 0;
-  reason = 2;
-  slot = slot;
-  «final_slot» = final slot;
-  «by_place» = 0;
-  «by_step» = 0;
-  roll = 0;
-}
-told next rejected final (Taken slot by step) = record {
-  no = 0;
-  next = next;
-  rejected = rejected;
-  batch = 0;
-  reason = 3;
-  slot = slot;
-  «final_slot» = 0;
-  «by_place» = by;
-  «by_step» = step;
-  roll = 0;
-}
-told next rejected final (PassedOver roll) = record {
-  no = 0;
-  next = next;
-  rejected = rejected;
-  batch = 0;
-  reason = 4;
-  slot = 0;
-  «final_slot» = 0;
-  «by_place» = 0;
-  «by_step» = 0;
-  roll = roll;
-}
+told next rejected final (Stayed slot) =
+    record { no = 0; next = next; rejected = rejected; batch = 0; reason = 1; slot = slot; «final_slot» = final slot; «by_place» = 0; «by_step» = 0; roll = 0 }
+told next rejected final (RolledIn slot) =
+    record { no = 0; next = next; rejected = rejected; batch = 0; reason = 2; slot = slot; «final_slot» = final slot; «by_place» = 0; «by_step» = 0; roll = 0 }
+told next rejected final (Taken slot by step) =
+    record { no = 0; next = next; rejected = rejected; batch = 0; reason = 3; slot = slot; «final_slot» = 0; «by_place» = by; «by_step» = step; roll = 0 }
+told next rejected final (PassedOver roll) =
+    record { no = 0; next = next; rejected = rejected; batch = 0; reason = 4; slot = 0; «final_slot» = 0; «by_place» = 0; «by_step» = 0; roll = roll }
 
 -- The first n - k rolls are those of the reservoir, the others those of the final shuffle.
 abbrev pub shownWhy : ℕ → ℕ → ℕ → Outcome → Reason
-shownWhy n k place (refused number batch) = record {
-  no = number;
-  next = 0;
-  rejected = 0;
-  batch = batch;
-  reason = 0;
-  slot = 0;
-  «final_slot» = 0;
-  «by_place» = 0;
-  «by_step» = 0;
-  roll = 0;
-}
+shownWhy n k place (refused number batch) =
+    record { no = number; next = 0; rejected = 0; batch = batch; reason = 0; slot = 0; «final_slot» = 0; «by_place» = 0; «by_step» = 0; roll = 0 }
 shownWhy n k place (done rolls ts) =
     told (next 0 ts) (rejected 0 ts) (finalSlot k (drop (n - k) rolls)) (fateOf k (take (n - k) rolls) place)
 
