@@ -6,7 +6,7 @@
 --   sample W words start xs k room          what comes of it: k of the records xs, with room for so many
 --   seenSample W words start xs k lent      what its caller sees: the answer, and the lent list of slots as it is left; the contract of
 --                                           the code is the equation with this
-use mathlib.Core.List.{List, [], _∷_, _++_}
+use mathlib.Core.List.{List, _∷_, _++_}
 use Prim.Native.Nat.{ℕ, _+_, _-_}
 use lib.Dec.{ltb}
 use lib.ListN.{length}

@@ -2,10 +2,10 @@
 --
 --   runOf, run-named, run-full   the run of a batch, as the operation gives it, and its length
 --   promise                      the promise, at 64 bits
-use mathlib.Core.Path.{_≡_, refl, sym, ap, _∙_}
+use mathlib.Core.Path.{_≡_, refl, sym, _∙_}
 use mathlib.Core.Bool.{false}
 use mathlib.Core.List.{List, [], _∷_}
-use Prim.Native.Nat.{ℕ, _^_, _<_, _≤_}
+use Prim.Native.Nat.{ℕ, _^_, _<_}
 use native.Mathlib.Nat.{le-refl}
 use native.Mathlib.Omega.{arith}
 use lib.Dec.{T, eqb, lit<}
@@ -22,9 +22,9 @@ use Rattle.answers.specs.declared.answer.Behind.{Behind}
 use Rattle.answers.proofs.Deciding.{decide-past, decide-none, in-count}
 use Rattle.runs.specs.Behind.{behindRefusals, wordsBehind, seenBehind}
 use Rattle.runs.proofs.WayBack.{behind-found}
-use Rattle.promises.specs.Demand1.{Callable, firstOf}
+use Rattle.promises.specs.Demand1.{firstOf}
 use Rattle.promises.specs.Demand2.{Allowed}
-use Rattle.promises.specs.Behind.{Op, Numbers, FullRun, Gives, Demand1, Demand2, Settled, StandIns, Promise}
+use Rattle.promises.specs.Behind.{Numbers, FullRun, Gives, Demand1, Demand2, Settled, StandIns, Promise}
 use Rattle.promises.proofs.Batch.{allowed-batch}
 use Rattle.promises.proofs.Calls.{one-number}
 use Rattle.promises.proofs.Method.{accepts-iff}

@@ -4,7 +4,7 @@
 --   promise       the promise
 use mathlib.Core.Path.{_≡_, refl, sym, ap, _∙_}
 use mathlib.Core.Bool.{not}
-use mathlib.Core.List.{List, [], _∷_, _++_}
+use mathlib.Core.List.{List, [], _++_}
 use Prim.Native.Nat.{ℕ, _-_, _≤_, zero-le}
 use lib.Dec.{T, lit<}
 use lib.ListN.{length, drop}
@@ -22,7 +22,7 @@ use Rattle.answers.specs.declared.answer.Answer.{Answer}
 use Rattle.answers.proofs.Deciding.{decide-past, decide-none, in-count}
 use Rattle.orders.specs.Order.{orderRefusals, rollsBehind, seenOrder}
 use Rattle.promises.specs.Demand1.{firstOf}
-use Rattle.promises.specs.Order.{Op, Numbers, Demand1, Demand2, Settled, StandIns, Promise}
+use Rattle.promises.specs.Order.{Numbers, Demand1, Demand2, Settled, StandIns, Promise}
 use Rattle.rules.proofs.Facts.{truth}
 use Rattle.promises.proofs.Refusing.{beside-refused, allowed-cons, named-nil, named-no, numbered-nil, numbered-no, settle}
 use Rattle.promises.proofs.Shuffle.{few-records}

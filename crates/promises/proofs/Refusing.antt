@@ -18,7 +18,7 @@ use mathlib.Core.List.{List, [], _∷_, _++_}
 use Prim.Native.Nat.{ℕ, _<_, _≤_}
 use native.Mathlib.Nat.{le-refl, le-of-lt, le-trans}
 use native.Mathlib.Omega.{arith}
-use lib.Dec.{T, lit<}
+use lib.Dec.{lit<}
 use Rattle.rules.specs.Run.{Taken, Run, ran, short, run}
 use Rattle.rules.specs.Width.{Width}
 use Rattle.rules.proofs.Facts.{clash}

@@ -22,7 +22,7 @@ use Rattle.answers.specs.Outcome.{Refusal, no, decide}
 use Rattle.areas.specs.Area.{little, entries, bytesOf, area}
 use Rattle.draws.specs.Sample.{sample}
 use Rattle.sheet.specs.Sheet.{Numbers, numbers, wordsOf, recordsOf, Sound, isSound, wrongSize}
-use Rattle.sheet.specs.ReadSheet.{unreadable, readRefusals, drawnBy, seenRead}
+use Rattle.sheet.specs.ReadSheet.{unreadable, seenRead}
 use Rattle.sheet.specs.RunSheet.{runSheet}
 use Rattle.sheet.specs.declared.read.Drawn.{Drawn}
 use Rattle.sheet.proofs.Reading.{length-words, length-records, size-right}
@@ -34,7 +34,6 @@ use Rattle.promises.specs.Demand1.{firstOf}
 use Rattle.promises.specs.Demand2.{Allowed}
 use Rattle.promises.specs.RoundTrip.{Back, WrittenBack, Again, ReadAgain, table, RoundTrip}
 use Rattle.promises.specs.Sheet.{Bytes}
-use Rattle.promises.specs.Write.{Callable}
 use Rattle.promises.proofs.Read as read
 use Rattle.promises.proofs.Read.{read-allowed}
 use Rattle.promises.proofs.Refusing.{first-past, allowed-cons, allowed-done}

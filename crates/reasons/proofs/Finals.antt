@@ -9,15 +9,13 @@
 --   final-ends, final-only           a place that a slot holds ends in its final slot, and in no other
 --   final-from                       a place that ends in a slot was held by one when the reservoir was done
 --   fate-within                      the slot of a place that was drawn is one of the k
-use mathlib.Core.Path.{_≡_, refl, sym, ap, ap₂, _∙_, subst}
+use mathlib.Core.Path.{_≡_, refl, sym, ap, _∙_}
 use mathlib.Core.Logic.{_⊎_, inl, inr, _≢_}
-use mathlib.Core.Bool.{true}
 use mathlib.Core.List.{List}
 use Prim.Native.Nat.{ℕ, _+_, _-_, _<_, _≤_}
 use native.Mathlib.Omega.{arith}
 use lib.Dec.{T}
 use lib.ListN.{length, take, drop, getD}
-use lib.Seq.{length-take-le}
 use Rattle.rules.specs.Order.{placeOf}
 use Rattle.rules.specs.Reservoir.{countup, reservoir}
 use Rattle.rules.specs.Rolls.{inRange}
@@ -31,10 +29,10 @@ use Rattle.rules.proofs.Rows.{length-countup, getD-countup}
 use Rattle.rules.proofs.Samples.{range-parts, shuffle-places, shuffle-row, row-among, row-place}
 use Rattle.rules.proofs.Turns.{Turned, turned-none, turned-turn, turned-range, turned-done}
 use Rattle.reasons.specs.Fate.{fateOf, Within, finalSlot}
-use Rattle.reasons.specs.Happened.{slotsAfter, Holds, Happened, EndsIn}
+use Rattle.reasons.specs.Happened.{slotsAfter, Holds, EndsIn}
 use Rattle.reasons.specs.declared.fate.Fate.{Fate}
 use Rattle.reasons.specs.declared.fate.Fate.the-variants.{Stayed, RolledIn, Taken, PassedOver}
-use Rattle.reasons.proofs.Fates.{fate-happened, fate-drawn}
+use Rattle.reasons.proofs.Fates.{fate-drawn}
 use Rattle.reasons.proofs.Slots.{length-slots, slots-last}
 
 -- ---- the loop

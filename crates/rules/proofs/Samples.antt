@@ -16,7 +16,7 @@ use Prim.Native.Nat.{ℕ, zero, suc, _+_, _-_, _<_, _≤_}
 use native.Mathlib.Nat.{le-of-suc-le-suc, not-suc-le-zero}
 use native.Mathlib.Omega.{arith}
 use lib.Dec.{T}
-use lib.ListN.{length, take, drop, set, getD, length-append, length-set, List·getD-append}
+use lib.ListN.{length, take, drop, set, getD, length-append, List·getD-append}
 use lib.Seq.{take-at, drop-at, take-length, getD-drop}
 use Rattle.rules.specs.Cut.{cut}
 use Rattle.rules.specs.Order.{count, placeOf, Distinct}

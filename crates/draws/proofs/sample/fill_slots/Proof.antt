@@ -1,6 +1,5 @@
 -- `draws::sample::fill_slots` meets its contract: the reservoir by the first n - k rolls, then the shuffle of its slots by the others. Assumes
 -- nothing.
-use Prim.Native.Nat.{_+_, _-_, _≤_}
 use native.Mathlib.Omega.{arith}
 use lib.ListN.{length}
 use Rattle.draws.proofs.Sampling.{later-fits, later-count, front-count, front-range, slots-filled}

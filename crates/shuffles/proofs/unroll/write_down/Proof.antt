@@ -1,7 +1,7 @@
 -- `shuffles::unroll::write_down` meets its contract. The loop's invariant: the rolls of the first i bounds are written, and r is what they left
 -- (Unfolding). The measure is the bounds that are left. Assumes nothing.
-use mathlib.Core.Path.{_≡_, ap, _∙_}
-use Prim.Native.Nat.{ℕ, _-_, _*_, _/_, _%_, _^_, _<_}
+use mathlib.Core.Path.{_≡_}
+use Prim.Native.Nat.{_-_, _<_}
 use native.Mathlib.Omega.{arith}
 use lib.ListN.{length}
 use Rattle.rules.specs.Shuffle.{countdown}
