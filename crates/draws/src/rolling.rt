@@ -54,7 +54,7 @@ pub fn roll_sample(words: &[u64], start: usize, n: usize, k: usize, rolls: &mut 
                     rejected: rejected + more,
                 }
             }
-            // words used are batches and rejected
+            // the reservoir has as many batches as it used words, less those rejected
             Supply::Short { batch } => Supply::Short {
                 batch: from - start - rejected + batch,
             },

@@ -92,11 +92,12 @@ fn draw_sample(words: &[u64], start: usize, records: &[u32], k: usize, slots: &m
 //
 // The first k records are put in the slots; each later one, at place i, takes the slot of its roll with bound i + 1 if there is one. Then
 // the k slots are shuffled, with the words that follow. The bounds k + 1, .., n are cut as a list of bounds; the shuffle has its own batches,
-// those of k records; a sample of 1 from 1 uses no word. Refusals, the lowest that applies: 2 more than 16,384 records, 3 k is 0 or above
-// n, 6 fewer than k slots, 9 start above the number of words, 10 the words end before some batch has one, batches of the shuffle counted on;
-// the slots are then exactly what they were. As a list of n - k bounds and a shuffle of k records, and two local arrays of 16,384 numbers
-// whatever n is. Of 101, 205, 309 with k = 1 and words 0, 1 it takes 309: next is 2 and one word is rejected; with k = 3 they are shuffled
-// to 205, 309, 101. While the rules stand the same input has the same answer.
+// those of k records. A sample of 1 from 1 uses no word. Refusals, the lowest that applies: 2 more than 16,384 records, 3 k is 0 or above
+// n, 6 fewer than k slots, 9 start above the number of words, 10 the words end before some batch has one; the slots are then exactly what
+// they were. At 10 the batches of the shuffle are counted on from those of the reservoir. The cost is that of a list of n - k bounds and of a
+// shuffle of k records, and two local arrays of 16,384 numbers whatever n is. Of 101, 205, 309 with k = 1 and words 0, 1 it takes 309: next
+// is 2 and one word is rejected; with k = 3 the same words shuffle them to 205, 309, 101. While the rules stand the same input has the same
+// answer.
 pub fn sample_records(
     words: &[u64],
     start: usize,

@@ -10,6 +10,8 @@ pub mod Batch
 pub mod List
 pub mod Shuffle
 pub mod Sample
+pub mod InTurn
+pub mod FinalShuffle
 pub mod Behind
 pub mod Order
 pub mod Sheet

@@ -11,6 +11,7 @@ use Rattle.promises.proofs.Demand3.{demand3, own-places}
 use Rattle.promises.proofs.Examples.{examples}
 use Rattle.promises.proofs.FirstBatch.{stand-ins3}
 use Rattle.promises.proofs.FirstShort.{first-short}
+use Rattle.promises.proofs.FinalShuffle.{final-shuffle}
 use Rattle.promises.proofs.List as list
 use Rattle.promises.proofs.Method.{suffice, one-outcome}
 use Rattle.promises.proofs.Order as order
@@ -36,6 +37,7 @@ promises = record {
   read-sheet = read.promise;
   why = why.promise;
   round-trip = round-trip;
+  final-shuffle = final-shuffle;
   lowest = first-is-lowest;
   first-short = first-short 64;
   suffice = suffice 64;

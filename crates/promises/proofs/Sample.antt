@@ -1,14 +1,15 @@
 -- The sample. Assumes nothing.
 --
---   plan-fits    the batches of a sample can be rolled
---   promise      the promise, at 64 bits
+--   plan-fits        the batches of a sample can be rolled
+--   could-come-up    every record can come up, in every slot
+--   promise          the promise, at 64 bits
 use mathlib.Core.Path.{_≡_, refl, sym, ap, _∙_}
 use mathlib.Core.Bool.{false}
 use mathlib.Core.List.{List, [], _∷_, _++_}
-use Prim.Native.Nat.{ℕ, _+_, _-_, _^_, _≤_}
+use Prim.Native.Nat.{ℕ, _^_, _≤_}
 use native.Mathlib.Nat.{le-refl, le-of-lt, le-trans}
 use native.Mathlib.Omega.{arith}
-use lib.Dec.{T, ltb, lit<}
+use lib.Dec.{ltb, lit<}
 use lib.ListN.{length, drop, getD}
 use borrow.Author.Tests.{ltb-false}
 use Rattle.rules.specs.Cut.{cut, cutFrom}
@@ -21,17 +22,15 @@ use Rattle.rules.specs.Sample.{sampleBounds, sampleWith}
 use Rattle.rules.specs.Shuffle.{exchange, shuffleWith, countdown, shufflePlanFrom}
 use Rattle.rules.specs.Width.{Width, size64, w64}
 use Rattle.rules.proofs.Facts.{or-right}
-use Rattle.rules.proofs.PinnedCut.{cut-pinned}
 use Rattle.rules.proofs.Samples.{row-distinct, length-drawn, sample-plan}
 use Rattle.rules.proofs.ShufflePlans.{sizes-more}
 use Rattle.rules.proofs.Widths.{GoodWidth, good64}
-use Rattle.answers.specs.Outcome.{decide, outside, shown}
+use Rattle.answers.specs.Outcome.{done, no, decide, outside, shown}
 use Rattle.answers.specs.declared.answer.Answer.{Answer}
 use Rattle.draws.specs.Sample.{samplePlan, sampleRefusals, sample, seenSample}
 use Rattle.promises.specs.Demand1.{Callable, firstOf}
 use Rattle.promises.specs.Demand2.{Allowed, ByMethod}
-use Rattle.promises.specs.Examples.{all}
-use Rattle.promises.specs.Sample.{Op, Numbers, Demand1, Demand2, Bounds, Batches, Settled, StandIns, CouldComeUp, NoOwnSlot, table, Promise, BatchNamed}
+use Rattle.promises.specs.Sample.{Op, Numbers, Demand1, Demand2, Bounds, Settled, StandIns, CouldComeUp, Promise, BatchNamed}
 use Rattle.promises.proofs.Calls.{below-nil, word-0, word-half, words-01, words-11}
 use Rattle.promises.proofs.CouldComeUp.{comes-up}
 use Rattle.promises.proofs.Method.{by-method, same-seen}
@@ -44,11 +43,6 @@ numbers W words start n k room = ten-last (run (W .bits) (samplePlan W n k) word
 
 bounds : (W : Width) → GoodWidth W → Bounds W
 bounds W g n k h l = sample-plan (W .size) (W .limit) (W .limit) maxRecords (le-refl (W .limit)) (g .sizes) n k (le-trans h (g .records)) l
-
-batches : (W : Width) (n k : ℕ) → Batches W n k
-batches W n k =
-    let bs : List ℕ = countup (n - k) (k + 1) in
-    record { reservoir = cut (W .limit) bs; cut = cut-pinned .holds (W .limit) bs; shuffled = refl }
 
 pub plan-fits : (W : Width) → GoodWidth W → (n k : ℕ) → n ≤ maxRecords → k ≤ n → PlanOf (2 ^ W .bits) (sampleBounds n k) (samplePlan W n k)
 plan-fits W g n k h l =
@@ -139,23 +133,17 @@ stand-ins = record {
       ∙ sym (f (1 ∷ 1 ∷ []) 0 three-records 1 (0 ∷ []) (d (1 ∷ 1 ∷ []) 0 three-records 1 (0 ∷ []) words-11 refl .none .0)) in
       let z : _≡_ {A = ℕ} 1 0 = sym (ap (λ (x : Answer × List ℕ). x .0 .rejected) some) ∙ same ∙ ap (λ (x : Answer × List ℕ). x .0 .rejected) none in
       omega arith;
-  -- both of two records: word 0 puts the second in slot 0
+  -- both of two records: word 0 puts the first in slot 1
   tied = λ op t d.
       let e = agrees w64 good64 op d (0 ∷ []) 0 two-records 2 (0 ∷ 0 ∷ []) word-0 refl in
-      let z : _≡_ {A = ℕ} 0 1 = t (0 ∷ []) 0 two-records 2 (0 ∷ 0 ∷ []) (d (0 ∷ []) 0 two-records 2 (0 ∷ 0 ∷ []) word-0 refl .none .0) (row-distinct 2) 1 0 (omega arith) (omega arith) (ap front e) in
+      let done = d (0 ∷ []) 0 two-records 2 (0 ∷ 0 ∷ []) word-0 refl .none .0 in
+      let z : _≡_ {A = ℕ} 1 0
+      = t (0 ∷ []) 0 two-records 2 (0 ∷ 0 ∷ []) word-0 done (row-distinct 2) 1 (omega arith) (ap (λ (x : Answer × List ℕ). getD (x .1) 1 0) e) in
       omega arith;
 }
 
-examples : T (all table)
-unfolding table product rest rolls find runFrom rollsOf next rejected decide sample sampleWith cut cutFrom countup reservoir size64 shufflePlanFrom countdown shuffleWith exchange
-examples = tt
-
-could-come-up : (W : Width) → GoodWidth W → CouldComeUp W (seenSample W)
+pub could-come-up : (W : Width) → GoodWidth W → CouldComeUp W (seenSample W)
 could-come-up W g n k i slot h l b s = comes-up W n k i slot h l b s (plan-fits W g n k h l)
-
-no-own-slot : (W : Width) → GoodWidth W → NoOwnSlot W (seenSample W)
-no-own-slot W g n k i h two l b =
-    (could-come-up W g n k i 0 h l (omega arith) (omega arith), (1, differ tt, could-come-up W g n k i 1 h l (omega arith) (omega arith)))
 
 pub promise : Promise w64
 promise = record {
@@ -164,10 +152,7 @@ promise = record {
   batch = batch-named w64;
   demand2 = demand2 w64 good64;
   bounds = bounds w64 good64;
-  batches = batches w64;
   settled = settled w64 good64;
   stand-ins = stand-ins;
   could-come-up = could-come-up w64 good64;
-  no-own-slot = no-own-slot w64 good64;
-  examples = examples;
 }

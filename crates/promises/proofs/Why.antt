@@ -20,8 +20,8 @@ use Rattle.rules.specs.Reservoir.{countup}
 use Rattle.rules.specs.Rolls.{rolls, rest, product, inRange}
 use Rattle.rules.specs.Run.{Run, Taken, run, runFrom, find, trace, rollsOf, next, rejected}
 use Rattle.rules.specs.Sample.{sampleBounds}
-use Rattle.rules.specs.Shuffle.{shufflePlanFrom, shuffleWith}
-use Rattle.rules.specs.Width.{Width, w64}
+use Rattle.rules.specs.Shuffle.{exchange, shuffleWith, countdown, shufflePlanFrom}
+use Rattle.rules.specs.Width.{Width, size64, w64}
 use Rattle.rules.proofs.Widths.{good64}
 use Rattle.answers.specs.Outcome.{Outcome, Refusal, no, noWord, decide, fromRun}
 use Rattle.areas.specs.Area.{little, entries, bytesOf, area}
@@ -227,23 +227,40 @@ settled a b a1 a2 b1 b2 s place bytes =
 twins : ℕ → List ℕ
 twins word = written (word ∷ []) (7 ∷ 7 ∷ []) 1 1
 
--- an operation that meets demand 2 gives the reason that is given
-as-given : (op : Op) → Demand2 w64 op → (s : List ℕ) (place : ℕ) → Allowed (whyRefusals w64 s place) → Bytes s → op s place .reason ≡ seenWhy w64 s place .reason
-as-given op d s place a b = ap (λ (r : Reason). r .reason) (as-ours s place a b _ (d s place b a))
+-- and both of them drawn
+both : List ℕ
+both = written (0 ∷ []) (7 ∷ 7 ∷ []) 2 1
+
+-- an operation that meets demand 2 gives the answer that is given
+as-given : (op : Op) → Demand2 w64 op → (s : List ℕ) (place : ℕ) → Allowed (whyRefusals w64 s place) → Bytes s → op s place ≡ seenWhy w64 s place
+as-given op d s place a b = as-ours s place a b _ (d s place b a)
+
+-- and its reason
+reason-given : (op : Op) → Demand2 w64 op → (s : List ℕ) (place : ℕ) → Allowed (whyRefusals w64 s place) → Bytes s → op s place .reason ≡ seenWhy w64 s place .reason
+reason-given op d s place a b = ap (λ (r : Reason). r .reason) (as-given op d s place a b)
+
+both-bytes : Bytes both
+unfolding both allBelow bytesOf area
+both-bytes = all-below 256 both tt
 
 twins-bytes : (Bytes (twins 0)) × (Bytes (twins (2 ^ 63)))
 unfolding twins allBelow bytesOf area
 twins-bytes = (all-below 256 (twins 0) tt, all-below 256 (twins (2 ^ 63)) tt)
 
 pub stand-ins : StandIns w64
-unfolding twins why fateOf placeOf firstOf decide runFrom find rollsOf next rejected rolls rest product cut cutFrom countup shufflePlanFrom shuffleWith little entries bytesOf area
+unfolding twins both why fateOf placeOf firstOf decide runFrom find rollsOf next rejected rolls rest product cut cutFrom countup size64 shufflePlanFrom countdown shuffleWith exchange little entries bytesOf area
 stand-ins = record {
   refuses = λ op r d. let b = twins-bytes .0 in r (twins 0) 0 b (d (twins 0) 0 b refl .none .0);
   by-record = λ op same d.
       let s = twins 0 in
       let b = twins-bytes .0 in
-      differ {m = 3} {n = 2} tt (sym (as-given op d s 0 refl b) ∙ same s 0 1 b refl ∙ as-given op d s 1 refl b);
+      differ {m = 3} {n = 2} tt (sym (reason-given op d s 0 refl b) ∙ same s 0 1 b refl ∙ reason-given op d s 1 refl b);
   blind = λ op same d.
       let (b, c) = twins-bytes in
-      differ {m = 2} {n = 4} tt (sym (as-given op d (twins 0) 1 refl b) ∙ same (twins 0) (twins (2 ^ 63)) 1 b c refl refl ∙ as-given op d (twins (2 ^ 63)) 1 refl c);
+      differ {m = 2} {n = 4} tt (sym (reason-given op d (twins 0) 1 refl b) ∙ same (twins 0) (twins (2 ^ 63)) 1 b c refl refl ∙ reason-given op d (twins (2 ^ 63)) 1 refl c);
+  -- word 0 exchanges the two slots, so that what slot 0 held is in slot 1
+  unmoved = λ op same d.
+      let e = as-given op d both 0 refl both-bytes in
+      differ {m = 1} {n = 0} tt
+      (sym (ap (λ (r : Reason). r .«final_slot») e) ∙ same both 0 both-bytes (ap (λ (r : Reason). r .no) e) ∙ ap (λ (r : Reason). r .slot) e);
 }

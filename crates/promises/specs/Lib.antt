@@ -13,6 +13,7 @@ pub mod Write
 pub mod Demand3
 pub mod FirstBatch
 pub mod Examples
+pub mod FinalShuffle
 pub mod RoundTrip
 pub mod Borders
 pub mod Promises

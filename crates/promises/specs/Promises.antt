@@ -14,6 +14,7 @@ use Rattle.promises.specs.Demand2.{Suffice, OneOutcome}
 use Rattle.promises.specs.Demand3.{Demand3, OwnPlaces}
 use Rattle.promises.specs.Examples.{Examples}
 use Rattle.promises.specs.FirstBatch.{StandIns3}
+use Rattle.promises.specs.FinalShuffle.{FinalShuffle}
 use Rattle.promises.specs.List as list
 use Rattle.promises.specs.Order as order
 use Rattle.promises.specs.Read as read
@@ -37,6 +38,8 @@ pub record Promises : Type 0 where
   pub why : why.Promise w64
   -- a sheet written, read, run and written again
   pub round-trip : RoundTrip w64
+  -- the final shuffle of a sample
+  pub final-shuffle : FinalShuffle w64
   -- shared by demands 1 and 2
   pub lowest : FirstIsLowest
   pub first-short : FirstShort 64

@@ -10,37 +10,27 @@
 --   Demand1 W op, Demand2 W op                    the demands, on every call
 --   BatchNamed W                                  at number 10 the batch is the one at which the run ended
 --   Bounds W                                      batch after batch the bounds are k + 1, .., n, k, .., 2, and each batch can be rolled
---   Batches W n k                                 the batches are those of the list k + 1, .., n, then those of a shuffle of k records; none has
---                                                 bounds of both
 --   Settled W, StandIns W                         as of one batch
 --   Holds got j x                                 what a sample gave is not refused, and slot j holds the record x
 --   ComesUp W op n k i slot                       a list of words, one for each batch, with which a sample of k from n records has the record
 --                                                 of place i in the slot, whatever the records are and whatever the lent list held
 --   CouldComeUp W op                              so it is of every place and every slot, for 1 to n of up to 16,384 records
---   NoOwnSlot W op                                so none of the first k records is tied to a slot
---   table                                         examples
 --   Promise W                                     the promise
 use mathlib.Core.Path.{_≡_}
 use mathlib.Core.Logic.{_≢_}
-use mathlib.Core.Bool.{Bool}
 use mathlib.Core.List.{List, [], _∷_, _++_}
-use Prim.Native.Nat.{ℕ, _+_, _-_, _^_, _<_, _≤_}
-use lib.Dec.{T}
+use Prim.Native.Nat.{ℕ, _<_, _≤_}
 use lib.ListN.{length, drop, getD}
 use Rattle.rules.specs.Limits.{maxRecords}
 use Rattle.rules.specs.Order.{Distinct}
-use Rattle.rules.specs.Pinned.{IsCut}
 use Rattle.rules.specs.Plan.{PlanOf}
-use Rattle.rules.specs.Reservoir.{countup}
 use Rattle.rules.specs.Sample.{sampleBounds, sampleWith}
-use Rattle.rules.specs.Shuffle.{shufflePlan}
-use Rattle.rules.specs.Width.{Width, w64}
-use Rattle.answers.specs.Outcome.{shown, left}
+use Rattle.rules.specs.Width.{Width}
+use Rattle.answers.specs.Outcome.{shown}
 use Rattle.answers.specs.declared.answer.Answer.{Answer}
-use Rattle.draws.specs.Sample.{samplePlan, sampleRefusals, sample, seenSample}
+use Rattle.draws.specs.Sample.{samplePlan, sampleRefusals, seenSample}
 use Rattle.promises.specs.Demand1.{Callable, AsRefused, numbersOf, NamesBatch}
 use Rattle.promises.specs.Demand2.{Allowed, ByMethod}
-use Rattle.promises.specs.Examples.{same, done, refused, all}
 
 abbrev pub Op : Type 0
 Op = List ℕ → ℕ → List ℕ → ℕ → List ℕ → Answer × List ℕ
@@ -52,6 +42,7 @@ abbrev pub Refuses : Width → List ℕ → ℕ → List ℕ → ℕ → List �
 Refuses W words start xs k lent got =
     AsRefused (sampleRefusals W words start (length xs) k (length lent)) (λ o. (shown start o, lent)) (got .0 .no) got
 
+-- Document 02, M-102: "From now on the k slots are shuffled by the shuffle rules with the words that follow. Demand 2 reads so for the sample."
 abbrev pub Gives : Width → List ℕ → ℕ → List ℕ → ℕ → List ℕ → Answer × List ℕ → Type 0
 Gives W words start xs k lent got = Allowed (sampleRefusals W words start (length xs) k (length lent))
     → ByMethod (W .bits) (samplePlan W (length xs) k) words start (λ rs. sampleWith k rs xs ++ drop k lent) got
@@ -70,11 +61,6 @@ Demand2 W op = (words : List ℕ) (start : ℕ) (xs : List ℕ) (k : ℕ) (lent 
 
 abbrev pub Bounds : Width → Type 0
 Bounds W = (n k : ℕ) → n ≤ maxRecords → k ≤ maxRecords → PlanOf (W .limit) (sampleBounds n k) (samplePlan W n k)
-
-pub record Batches (W : Width) (n k : ℕ) : Type 0 where
-  pub reservoir : List (List ℕ)
-  pub cut : IsCut (W .limit) (countup (n - k) (k + 1)) reservoir
-  pub shuffled : samplePlan W n k ≡ reservoir ++ shufflePlan (W .size) k
 
 abbrev pub Settled : Width → Type 0
 Settled W = (a b : Op) → Demand1 W a → Demand2 W a → Demand1 W b → Demand2 W b
@@ -96,10 +82,10 @@ pub record StandIns (W : Width) : Type 0 where
       → ((words : List ℕ) (start : ℕ) (xs : List ℕ) (k : ℕ) (lent : List ℕ) → op words start xs k lent .0 .no ≡ 0
       → op words start xs k lent .0 .rejected ≡ made (length words) start xs k lent)
       → ¬ Demand2 W op
-  -- without the final shuffle: each of the first k records is in its own slot, if it is in one of the k
+  -- document 02, M-102: "the first record of the register, when drawn, is always in slot 0", as without the final shuffle
   pub tied : (op : Op)
-      → ((words : List ℕ) (start : ℕ) (xs : List ℕ) (k : ℕ) (lent : List ℕ) → op words start xs k lent .0 .no ≡ 0 → Distinct xs
-      → (i slot : ℕ) → i < k → slot < k → getD (op words start xs k lent .1) slot 0 ≡ getD xs i 0 → slot ≡ i)
+      → ((words : List ℕ) (start : ℕ) (xs : List ℕ) (k : ℕ) (lent : List ℕ) → Callable (W .bits) words → op words start xs k lent .0 .no ≡ 0
+      → Distinct xs → (slot : ℕ) → slot < k → getD (op words start xs k lent .1) slot 0 ≡ getD xs 0 0 → slot ≡ 0)
       → ¬ Demand2 W op
 
 abbrev pub Holds : Answer × List ℕ → ℕ → ℕ → Type 0
@@ -114,35 +100,12 @@ pub record ComesUp (W : Width) (op : Op) (n k i slot : ℕ) : Type 0 where
 abbrev pub CouldComeUp : Width → Op → Type 0
 CouldComeUp W op = (n k i slot : ℕ) → n ≤ maxRecords → k ≤ n → i < n → slot < k → ComesUp W op n k i slot
 
--- Document 02, M-102: "A reviewer noticed that the first record of the register, when drawn, is always in slot 0. A reservoir's first k records
--- can only sit in their own slots"
-abbrev pub NoOwnSlot : Width → Op → Type 0
-NoOwnSlot W op = (n k i : ℕ) → n ≤ maxRecords → 2 ≤ k → k ≤ n → i < k → ComesUp W op n k i 0 × ((slot : ℕ) × (slot ≢ 0) × ComesUp W op n k i slot)
-
-unfoldable pub table : List Bool
-table =
-    -- "the sample of 3 from 3 now uses words": it is their shuffle. "k = 1 shuffles nothing"; 1 from 1 uses no word
-    done (sample w64 (0 ∷ 1 ∷ []) 0 (0 ∷ 1 ∷ 2 ∷ []) 3 3) (1 ∷ 2 ∷ 0 ∷ []) 2 1
-    ∷ refused (sample w64 [] 0 (0 ∷ 1 ∷ 2 ∷ []) 3 3) 10 0
-    ∷ done (sample w64 (0 ∷ 1 ∷ []) 0 (101 ∷ 205 ∷ 309 ∷ []) 1 1) (309 ∷ []) 2 1
-    ∷ done (sample w64 [] 0 (7 ∷ []) 1 1) (7 ∷ []) 0 0
-    -- 2 from 3: word 1 rolls 0 with bound 3, so that slot 0 gets record 9; then word 0 exchanges the two slots, and 2^63 does not
-    ∷ done (sample w64 (1 ∷ 0 ∷ []) 0 (7 ∷ 8 ∷ 9 ∷ []) 2 2) (8 ∷ 9 ∷ []) 2 0
-    ∷ done (sample w64 (1 ∷ 2 ^ 63 ∷ []) 0 (7 ∷ 8 ∷ 9 ∷ []) 2 2) (9 ∷ 8 ∷ []) 2 0
-    -- 3 times 2 would be one batch of a list; here the shuffle has its own, "batch numbers in 10 run on", and the slots stay
-    ∷ refused (sample w64 (1 ∷ []) 0 (7 ∷ 8 ∷ 9 ∷ []) 2 2) 10 1
-    ∷ same (left (5 ∷ 6 ∷ []) (sample w64 (1 ∷ []) 0 (7 ∷ 8 ∷ 9 ∷ []) 2 2)) (5 ∷ 6 ∷ [])
-    ∷ []
-
 pub record Promise (W : Width) : Type 0 where
   pub numbers : Numbers W
   pub demand1 : Demand1 W (seenSample W)
   pub batch : BatchNamed W
   pub demand2 : Demand2 W (seenSample W)
   pub bounds : Bounds W
-  pub batches : (n k : ℕ) → Batches W n k
   pub settled : Settled W
   pub stand-ins : StandIns W
   pub could-come-up : CouldComeUp W (seenSample W)
-  pub no-own-slot : NoOwnSlot W (seenSample W)
-  pub examples : T (all table)

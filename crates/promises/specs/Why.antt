@@ -15,8 +15,8 @@
 --   ThisDraw W s lent                what is said of a sheet that was drawn: some places are drawn by its words; the records drawn are those at these
 --                                    places; and the reasons 1 and 2 are given to these places, 3 and 4 to the others
 --   Takers W s slot p ps             from place p on each place held the slot until the next one took it; the last was rolled in and stayed
---   worked, short words k, fields, table    a sheet in which all four reasons occur; ones whose words do not suffice; the ten fields of an answer;
---                                    examples
+--   worked, with words k, fields, table    a sheet in which all four reasons occur; its records with other words and another k; the ten fields of
+--                                    an answer; examples
 --   Promise W                        the promise
 use mathlib.Core.Path.{_≡_}
 use mathlib.Core.Logic.{_↔_, _⊎_, _≢_}
@@ -87,6 +87,8 @@ pub record StandIns (W : Width) : Type 0 where
   pub blind : (op : Op)
       → ((s t : List ℕ) (place : ℕ) → Bytes s → Bytes t → numbers s ≡ numbers t → recordsOf s ≡ recordsOf t → op s place .reason ≡ op t place .reason)
       → ¬ Demand2 W op
+  -- the final slot told is the reservoir's
+  pub unmoved : (op : Op) → ((s : List ℕ) (place : ℕ) → Bytes s → op s place .no ≡ 0 → op s place .«final_slot» ≡ op s place .slot) → ¬ Demand2 W op
 
 -- ---- the draw that the reasons are of
 
@@ -124,9 +126,9 @@ Takers W s slot p (q ∷ qs) =
 abbrev pub worked : List ℕ
 worked = written (2 ^ 63 ∷ (2 ^ 63 + 1) ∷ 0 ∷ []) (101 ∷ 205 ∷ 309 ∷ 412 ∷ []) 2 1
 
--- such words, and such a k
-abbrev pub short : List ℕ → ℕ → List ℕ
-short words k = written words (101 ∷ 205 ∷ 309 ∷ 412 ∷ []) k 1
+-- the same records, drawn by these words, with this k; the words may be too few
+abbrev pub with : List ℕ → ℕ → List ℕ
+with words k = written words (101 ∷ 205 ∷ 309 ∷ 412 ∷ []) k 1
 
 abbrev pub fields : Reason → List ℕ
 fields r = r .no ∷ r .next ∷ r .rejected ∷ r .batch ∷ r .reason ∷ r .slot ∷ r .«final_slot» ∷ r .«by_place» ∷ r .«by_step» ∷ r .roll ∷ []
@@ -139,16 +141,21 @@ table =
     ∷ same (fields (seenWhy w64 worked 1)) (0 ∷ 3 ∷ 1 ∷ 0 ∷ 3 ∷ 1 ∷ 0 ∷ 2 ∷ 0 ∷ 0 ∷ [])
     ∷ same (fields (seenWhy w64 worked 2)) (0 ∷ 3 ∷ 1 ∷ 0 ∷ 2 ∷ 1 ∷ 0 ∷ 0 ∷ 0 ∷ 0 ∷ [])
     ∷ same (fields (seenWhy w64 worked 3)) (0 ∷ 3 ∷ 1 ∷ 0 ∷ 4 ∷ 0 ∷ 0 ∷ 0 ∷ 0 ∷ 2 ∷ [])
+    -- three slots: word 0 rolls 0 with bound 4, so that place 3 takes slot 0; word 1 shuffles the slots 0, 1, 2 to 1, 2, 0
+    ∷ same (fields (seenWhy w64 (with (0 ∷ 1 ∷ []) 3) 0)) (0 ∷ 2 ∷ 0 ∷ 0 ∷ 3 ∷ 0 ∷ 0 ∷ 3 ∷ 0 ∷ 0 ∷ [])
+    ∷ same (fields (seenWhy w64 (with (0 ∷ 1 ∷ []) 3) 1)) (0 ∷ 2 ∷ 0 ∷ 0 ∷ 1 ∷ 1 ∷ 0 ∷ 0 ∷ 0 ∷ 0 ∷ [])
+    ∷ same (fields (seenWhy w64 (with (0 ∷ 1 ∷ []) 3) 2)) (0 ∷ 2 ∷ 0 ∷ 0 ∷ 1 ∷ 2 ∷ 1 ∷ 0 ∷ 0 ∷ 0 ∷ [])
+    ∷ same (fields (seenWhy w64 (with (0 ∷ 1 ∷ []) 3) 3)) (0 ∷ 2 ∷ 0 ∷ 0 ∷ 2 ∷ 0 ∷ 2 ∷ 0 ∷ 0 ∷ 0 ∷ [])
     -- on the sheet of document 01 slot 0 was taken twice: the first taker is named
     ∷ same (fields (seenWhy w64 plain 0)) (0 ∷ 2 ∷ 1 ∷ 0 ∷ 3 ∷ 0 ∷ 0 ∷ 1 ∷ 0 ∷ 0 ∷ [])
     ∷ same (fields (seenWhy w64 plain 1)) (0 ∷ 2 ∷ 1 ∷ 0 ∷ 3 ∷ 0 ∷ 0 ∷ 2 ∷ 1 ∷ 0 ∷ [])
     ∷ same (fields (seenWhy w64 plain 2)) (0 ∷ 2 ∷ 1 ∷ 0 ∷ 2 ∷ 0 ∷ 0 ∷ 0 ∷ 0 ∷ 0 ∷ [])
     -- 10, also where only the final shuffle lacks words; and 7, 3 and 1 before it
-    ∷ same (fields (seenWhy w64 (short (2 ^ 63 ∷ []) 2) 3)) (10 ∷ 0 ∷ 0 ∷ 0 ∷ 0 ∷ 0 ∷ 0 ∷ 0 ∷ 0 ∷ 0 ∷ [])
-    ∷ same (fields (seenWhy w64 (short (2 ^ 63 ∷ (2 ^ 63 + 1) ∷ []) 2) 3)) (10 ∷ 0 ∷ 0 ∷ 1 ∷ 0 ∷ 0 ∷ 0 ∷ 0 ∷ 0 ∷ 0 ∷ [])
-    ∷ same (fields (seenWhy w64 (short (2 ^ 63 ∷ []) 2) 4)) (7 ∷ 0 ∷ 0 ∷ 0 ∷ 0 ∷ 0 ∷ 0 ∷ 0 ∷ 0 ∷ 0 ∷ [])
-    ∷ same (fields (seenWhy w64 (short (2 ^ 63 ∷ []) 2) 9)) (7 ∷ 0 ∷ 0 ∷ 0 ∷ 0 ∷ 0 ∷ 0 ∷ 0 ∷ 0 ∷ 0 ∷ [])
-    ∷ same (fields (seenWhy w64 (short (2 ^ 63 ∷ []) 5) 4)) (3 ∷ 0 ∷ 0 ∷ 0 ∷ 0 ∷ 0 ∷ 0 ∷ 0 ∷ 0 ∷ 0 ∷ [])
+    ∷ same (fields (seenWhy w64 (with (2 ^ 63 ∷ []) 2) 3)) (10 ∷ 0 ∷ 0 ∷ 0 ∷ 0 ∷ 0 ∷ 0 ∷ 0 ∷ 0 ∷ 0 ∷ [])
+    ∷ same (fields (seenWhy w64 (with (2 ^ 63 ∷ (2 ^ 63 + 1) ∷ []) 2) 3)) (10 ∷ 0 ∷ 0 ∷ 1 ∷ 0 ∷ 0 ∷ 0 ∷ 0 ∷ 0 ∷ 0 ∷ [])
+    ∷ same (fields (seenWhy w64 (with (2 ^ 63 ∷ []) 2) 4)) (7 ∷ 0 ∷ 0 ∷ 0 ∷ 0 ∷ 0 ∷ 0 ∷ 0 ∷ 0 ∷ 0 ∷ [])
+    ∷ same (fields (seenWhy w64 (with (2 ^ 63 ∷ []) 2) 9)) (7 ∷ 0 ∷ 0 ∷ 0 ∷ 0 ∷ 0 ∷ 0 ∷ 0 ∷ 0 ∷ 0 ∷ [])
+    ∷ same (fields (seenWhy w64 (with (2 ^ 63 ∷ []) 5) 4)) (3 ∷ 0 ∷ 0 ∷ 0 ∷ 0 ∷ 0 ∷ 0 ∷ 0 ∷ 0 ∷ 0 ∷ [])
     ∷ same (fields (seenWhy w64 [] 4)) (1 ∷ 0 ∷ 0 ∷ 0 ∷ 0 ∷ 0 ∷ 0 ∷ 0 ∷ 0 ∷ 0 ∷ [])
     ∷ []
 

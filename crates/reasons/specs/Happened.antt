@@ -1,16 +1,17 @@
--- What happened to a place in a draw of k by these rolls. The slots hold places: at first slot j holds place j, and at step i the slot that roll
--- i names, if it is below k, gets place k + i. These are the rolls of the reservoir; then the slots are shuffled by the others.
+-- What happened to a place in a draw of k from n records. The slots hold places: at first slot j holds place j, and at step i the slot that roll i of
+-- the reservoir names, if it is below k, gets place k + i. Then the slots are shuffled. Below, js are the rolls of the reservoir alone, and rolls all
+-- those of the draw: the first n - k are the reservoir's.
 --
---   slotsAfter k rolls t          the places that the slots hold when the first t steps are done, by the reservoir of the sample itself
---   Holds k rolls slot p t        the slot holds place p when t steps are done
+--   slotsAfter k js t             the places that the slots hold when the first t steps are done, by the reservoir of the sample itself
+--   Holds k js slot p t           the slot holds place p when t steps are done
 --   turn k p                      how many steps are done when place p has had its turn: none for the first k; for a later place its own is
 --                                 the last
---   HeldUntil k rolls slot p t    the slot holds place p from its turn until t steps are done
---   Rolled k rolls p roll         place p has a roll, at its step p - k, and it is this one
---   Happened k rolls p fate       this became of place p: the four reasons of document 02, as propositions about the slots and the rolls
---   EndsIn n k rolls p slot       the slot holds place p in the end: all the rolls of a draw of k from n records make it so of the places 0, .., n - 1
---   Tells n k rolls p answer      by all the rolls of the draw, the answer tells what happened to place p: the number of the reason, what it names,
---                                 and 0 in the fields that do not apply
+--   HeldUntil k js slot p t       the slot holds place p from its turn until t steps are done
+--   Rolled k js p roll            place p has a roll, at its step p - k, and it is this one
+--   Happened k js p fate          this became of place p: the four reasons of document 02, as propositions about the slots and the rolls
+--   EndsIn n k rolls p slot       the slot holds place p when the slots are shuffled: the sample of the places 0, .., n - 1 has it there
+--   Tells n k rolls p answer      the answer tells what happened to place p: the number of the reason, what it names, and 0 in the fields that do
+--                                 not apply
 use mathlib.Core.Path.{_≡_}
 use mathlib.Core.Logic.{_⊎_}
 use mathlib.Core.List.{List}
@@ -23,30 +24,30 @@ use Rattle.reasons.specs.declared.fate.Fate.the-variants.{Stayed, Rolled
 use Rattle.reasons.specs.declared.why.Reason.{Reason}
 
 abbrev pub slotsAfter : ℕ → List ℕ → ℕ → List ℕ
-slotsAfter k rolls t = reservoir (countup k 0) (countup t k) (take t rolls)
+slotsAfter k js t = reservoir (countup k 0) (countup t k) (take t js)
 
 abbrev pub Holds : ℕ → List ℕ → ℕ → ℕ → ℕ → Type 0
-Holds k rolls slot p t = (slot < k) × (getD (slotsAfter k rolls t) slot 0 ≡ p)
+Holds k js slot p t = (slot < k) × (getD (slotsAfter k js t) slot 0 ≡ p)
 
 abbrev pub turn : ℕ → ℕ → ℕ
 turn k p = p + 1 - k
 
 abbrev pub HeldUntil : ℕ → List ℕ → ℕ → ℕ → ℕ → Type 0
-HeldUntil k rolls slot p t = (u : ℕ) → turn k p ≤ u → u ≤ t → Holds k rolls slot p u
+HeldUntil k js slot p t = (u : ℕ) → turn k p ≤ u → u ≤ t → Holds k js slot p u
 
 abbrev pub Rolled : ℕ → List ℕ → ℕ → ℕ → Type 0
-Rolled k rolls p roll = (k ≤ p) × (p < k + length rolls) × (getD rolls (p - k) 0 ≡ roll)
+Rolled k js p roll = (k ≤ p) × (p < k + length js) × (getD js (p - k) 0 ≡ roll)
 
 abbrev pub Happened : ℕ → List ℕ → ℕ → Fate → Type 0
 -- "it was among the first k and stayed"
-Happened k rolls p (Stayed slot) = (p < k) × HeldUntil k rolls slot p (length rolls)
+Happened k js p (Stayed slot) = (p < k) × HeldUntil k js slot p (length js)
 -- "it was rolled into a slot at its step and stayed"
-Happened k rolls p (RolledIn slot) = Rolled k rolls p slot × HeldUntil k rolls slot p (length rolls)
+Happened k js p (RolledIn slot) = Rolled k js p slot × HeldUntil k js slot p (length js)
 -- "it held a slot until a later record, named by place and step (place i has step i - k), took that slot"
-Happened k rolls p (Taken slot by step) =
-    (p < by) × (by ≡ k + step) × (step < length rolls) × HeldUntil k rolls slot p step × Holds k rolls slot by (step + 1)
+Happened k js p (Taken slot by step) =
+    (p < by) × (by ≡ k + step) × (step < length js) × HeldUntil k js slot p step × Holds k js slot by (step + 1)
 -- "its own roll was k or more, with the roll"
-Happened k rolls p (PassedOver roll) = Rolled k rolls p roll × (k ≤ roll)
+Happened k js p (PassedOver roll) = Rolled k js p roll × (k ≤ roll)
 
 abbrev pub EndsIn : ℕ → ℕ → List ℕ → ℕ → ℕ → Type 0
 EndsIn n k rolls p slot = (slot < k) × (getD (sampleWith k rolls (countup n 0)) slot 0 ≡ p)

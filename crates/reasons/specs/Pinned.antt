@@ -1,6 +1,7 @@
 -- What pins the reasons: the slots step by step, and that the reason told is what happened.
 --
---   SlotsPinned      the slots that hold places, step by step; in the end they hold what the sample of the places 0, 1, .., n - 1 gives
+--   SlotsPinned      the slots that hold places, step by step; after the last step they hold what the reservoir of the places 0, 1, .., n - 1
+--                    gives
 --   FinalPinned      of the rolls of a draw: a place that a slot holds when the reservoir is done ends in the slot's final slot, and in no other
 --   AnswerPinned     the answer that tells what became of a place, field by field; and that of a refusal
 --   ReasonsPinned    the statement: all of these; of every place below n the reason told is true, and no other is, with no other values
@@ -13,7 +14,8 @@ use lib.ListN.{length, take, drop, getD}
 use Rattle.rules.specs.Reservoir.{countup, reservoir}
 use Rattle.rules.specs.Rolls.{inRange}
 use Rattle.rules.specs.Sample.{sampleBounds}
-use Rattle.answers.specs.Outcome.{refused}
+use Rattle.rules.specs.Run.{Taken}
+use Rattle.answers.specs.Outcome.{refused, done}
 use Rattle.reasons.specs.Fate.{fateOf, finalSlot}
 use Rattle.reasons.specs.Happened.{slotsAfter, Holds, Happened, EndsIn, Tells}
 use Rattle.reasons.specs.Why.{told, shownWhy}
@@ -39,21 +41,13 @@ pub record FinalPinned (n k : ℕ) (rolls : List ℕ) : Type 0 where
 pub record AnswerPinned : Type 0 where
   pub tells : (n k : ℕ) (rolls : List ℕ) (p next rejected : ℕ) (final : ℕ → ℕ) (fate : Fate) → Happened k (take (n - k) rolls) p fate
       → ((slot : ℕ) → (fate ≡ Stayed slot) ⊎ (fate ≡ RolledIn slot) → EndsIn n k rolls p (final slot)) → Tells n k rolls p (told next rejected final fate)
+  -- of the rolls of a draw, in range, it tells what happened to the place
+  pub shows : (n k p : ℕ) (rolls : List ℕ) (ts : List Taken) → k ≤ n → p < n → T (inRange (sampleBounds n k) rolls)
+      → Tells n k rolls p (shownWhy n k p (done rolls ts))
   pub used : (next rejected : ℕ) (final : ℕ → ℕ) (fate : Fate) → let r : Reason = told next rejected final fate in
       (r .no ≡ 0) × (r .next ≡ next) × (r .rejected ≡ rejected) × (r .batch ≡ 0)
   pub none : (n k p number batch : ℕ) → shownWhy n k p (refused number batch)
-      ≡ record {
-        no = number;
-        next = 0;
-        rejected = 0;
-        batch = batch;
-        reason = 0;
-        slot = 0;
-        «final_slot» = 0;
-        «by_place» = 0;
-        «by_step» = 0;
-        roll = 0;
-      }
+      ≡ record { no = number; next = 0; rejected = 0; batch = batch; reason = 0; slot = 0; «final_slot» = 0; «by_place» = 0; «by_step» = 0; roll = 0 }
 
 pub record ReasonsPinned : Type 0 where
   pub slots : (k : ℕ) (rolls : List ℕ) → SlotsPinned k rolls

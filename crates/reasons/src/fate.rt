@@ -1,4 +1,5 @@
-// What became of a place of the register in a draw, read off the rolls of the places from k on; and where the final shuffle puts a slot.
+// What became of a place of the register in a draw, read off the rolls of the places from k on; and where the final shuffle puts what
+// a slot holds.
 ghost use mathlib.Core.Path.{_≡_};
 ghost use mathlib.Core.Bool.{true};
 ghost use Prim.Native.Nat.{_+_, _<_, _≤_};

@@ -1,5 +1,5 @@
 -- What each definition means, said once more in other words, so that a reader who misreads the one is caught by the other. Each pin
--- stands under the words of document 01 that it is of.
+-- stands under the words of document 01, or 02, that it is of.
 --
 --   RollsPinned L bs             a word's rolls are the digits of product times word, and each series of rolls has as many words
 --   TestsPinned                  what it is that some bound is 0, and that rolls are in range

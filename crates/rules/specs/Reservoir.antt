@@ -1,4 +1,4 @@
--- The sample: a reservoir with given rolls.
+-- A reservoir with given rolls.
 --
 --   countup s i              i, i + 1, .., s of them
 --   reservoir slots xs js    the slots after the later records xs, each with its roll j of js
