@@ -1,6 +1,7 @@
 # make draw      builds the program and runs it on the example sheet; what the prover says goes to target/draw.log
 # make test      the gate: everything proved, every test passed
-# make bench     times of the library beside Rust written for this, as ratios, on x86-64
+# make bench     times of the library beside Rust written for this, as ratios, on x86-64; with BEFORE=.../libhildrasp.a
+#                also beside that library, which was built at an earlier commit
 # make picture   draws docs/four_bits.svg anew
 .PHONY: draw test bench picture
 
@@ -14,7 +15,10 @@ test:
 
 bench:
 	rt staticlib hildrasp
-	cd rust && cargo run --release --offline --bin bench
+ifdef BEFORE
+	cc -shared -o target/before.so -Wl,--whole-archive $(BEFORE) -Wl,--no-whole-archive
+endif
+	cd rust && cargo run --release --offline --bin bench -- $(if $(BEFORE),../target/before.so)
 
 picture:
 	rt staticlib hildrasp

@@ -76,8 +76,8 @@ pub struct Explanation {
 /// **Refusals, in this order:** 2 [`Count`](Refusal::Count), 4 [`Zero`](Refusal::Zero),
 /// 5 [`Product`](Refusal::Product), 9 [`Start`](Refusal::Start), 10 [`Words`](Refusal::Words).
 ///
-/// **Cost:** a division for each bound and one more; a multiplication for each word looked at; the two halves of a
-/// product for each roll.
+/// **Cost:** the two halves of a product for each bound and for each roll; one remainder; a multiplication for each
+/// word looked at.
 ///
 /// Under the same rules the answer to the same words, start and bounds never changes.
 ///
@@ -107,8 +107,8 @@ pub fn roll_batch(words: &[u64], start: usize, bounds: &[u64]) -> Result<Rolls, 
 /// 9 [`Start`](Refusal::Start), 10 [`Words`](Refusal::Words). The lent list then stays the same, also where words run
 /// out at a late batch.
 ///
-/// **Cost:** two passes over bounds and words, each with a division for each bound that may join and a remainder for
-/// each batch; the two halves of a product for each roll.
+/// **Cost:** two passes over bounds and words, each with the two halves of a product for each bound that may join and a
+/// remainder for each batch; the two halves of a product for each roll.
 ///
 /// Under the same rules the answer to the same words, start and bounds never changes.
 ///

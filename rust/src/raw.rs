@@ -1,5 +1,5 @@
 //! The C face of the proved library, as `include/hildrasp.h` declares it, and one safe function over slices for each
-//! of its calls. All of the package's `unsafe` is here.
+//! of its calls. All of the library's `unsafe` is here.
 
 /// The answer of a call that writes into a lent list.
 #[repr(C)]

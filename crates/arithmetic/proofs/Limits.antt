@@ -1,34 +1,24 @@
 -- Products held against a limit, and products that wrap. Assumes nothing.
 --
---   leb-div                                       p is at most limit / b exactly where p * b is at most the limit
 --   against-below, against-whole, against-above   what is held of a number, by where it lies
 --   held-below, held-whole, held-above            where a number lies, by what is held of it
---   is-below, is-whole, is-above                  where p * b lies, by the two tests that the code makes
---   some                                          p is 1 or more where p * b passes 2^64 - 1
+--   beyond-words, within-word                     whether a number is at most a limit that is a word, by its halves
+--   is-below, is-whole, is-above                  what is held of a number, by its halves
 --   grown-against                                 what is held of a product, with one bound more
 --   unwrap-whole, unwrap-some, unwrap-wrapped     the product that a word stands for, where products up to 2^L wrap
 use mathlib.Core.Path.{_≡_, refl, sym, ap, _∙_}
 use mathlib.Core.Bool.{Bool, true, false}
-use Prim.Native.Nat.{ℕ, zero, suc, _+_, _-_, _*_, _/_, _%_, _^_, _<_, _≤_}
-use native.Mathlib.Nat.{le-div-iff-mul-le, lt-of-not-le, le-mul-of-pos-right, mod-eq-of-lt, mod-self}
+use Prim.Native.Nat.{ℕ, _*_, _/_, _%_, _^_, _<_, _≤_}
+use native.Mathlib.Nat.{le-mul-of-pos-right, mod-eq-of-lt, mod-self}
 use native.Mathlib.Decide.{decLt}
 use native.Mathlib.Omega.{arith}
 use lib.Dec.{leb, ltb, eqb}
 use lib.Arith.{lt-of-le-ne}
-use borrow.Author.Tests.{leb-true, leb-false, le-leb, lt-leb, lt-ltb, le-ltb, eq-eqb, ne-eqb, eqb-true, eqb-false, ltb-true, ltb-false}
+use borrow.Author.Tests.{lt-leb, lt-ltb, le-ltb, eq-eqb, ne-eqb, eqb-true, eqb-false, ltb-true, ltb-false}
 use Rattle.arithmetic.specs.Products.{against, grown, unwrap}
 use Rattle.arithmetic.specs.declared.bounds.Product.{Product}
 use Rattle.arithmetic.specs.declared.bounds.Product.the-variants.{Below, Whole, Above}
 use Rattle.rules.proofs.Facts.{clash}
-
--- ---- a quotient tells whether a product passes a limit
-
-pub leb-div : (p b limit : ℕ) → 0 < b → leb p (limit / b) ≡ leb (p * b) limit
-leb-div p b limit h = go (leb p (limit / b)) refl
-  where
-    go : (t : Bool) → leb p (limit / b) ≡ t → t ≡ leb (p * b) limit
-    go true e = sym (le-leb _ _ ((le-div-iff-mul-le h) .0 (leb-true _ _ e)))
-    go false e = sym (lt-leb _ _ (lt-of-not-le (λ k. let l : p ≤ limit / b = (le-div-iff-mul-le h) .1 k in omega (arith, leb-false p (limit / b) e))))
 
 -- ---- what is held against 2^64
 
@@ -78,31 +68,26 @@ module _ (n : ℕ) where
   pub held-above : against n ≡ Above → 2 ^ 64 < n
   held-above = held n .above
 
--- ---- p * b by two tests: whether it is at most 2^64 - 1, and whether (p - 1) * b is at most that less b - 1
+-- ---- a number by its halves
 
-module _ (p b : ℕ) where
-  pub is-below : leb (p * b) (2 ^ 64 - 1) ≡ true → p * b < 2 ^ 64
-  is-below e = omega (arith, leb-true (p * b) (2 ^ 64 - 1) e)
+pub beyond-words : (n high limit : ℕ) → high ≡ n / 2 ^ 64 → (high ≡ 0 → ⊥) → limit < 2 ^ 64 → eqb high 0 ≡ leb n limit
+beyond-words n high limit h k f = ne-eqb high 0 k ∙ sym (lt-leb n limit (omega arith))
 
-  passes : leb (p * b) (2 ^ 64 - 1) ≡ false → 2 ^ 64 ≤ p * b
-  passes e = omega (arith, leb-false (p * b) (2 ^ 64 - 1) e)
+module _ (n high low : ℕ) (h : high ≡ n / 2 ^ 64) (l : low ≡ n % 2 ^ 64) where
+  low-alone : high ≡ 0 → low ≡ n
+  low-alone e = omega arith
 
-  pub some : leb (p * b) (2 ^ 64 - 1) ≡ false → 0 < p
-  some e = go p (passes e)
-    where
-      go : (p : ℕ) → 2 ^ 64 ≤ p * b → 0 < p
-      go zero k = omega arith
-      go (suc p) k = omega arith
+  pub within-word : high ≡ 0 → (limit : ℕ) → leb low limit ≡ leb n limit
+  within-word e limit = ap (λ (x : ℕ). leb x limit) (low-alone e)
 
-  module _ (h : 0 < b) (f : b < 2 ^ 64) (k : leb (p * b) (2 ^ 64 - 1) ≡ false) where
-    one-less : (p - 1) * b + b ≡ p * b
-    one-less = let e : p - 1 + 1 ≡ p = omega (arith, some k) in omega (arith, ap (λ (x : ℕ). x * b) e)
+  pub is-below : high ≡ 0 → Below low ≡ against n
+  is-below e = ap Below (low-alone e) ∙ sym (against-below n (omega arith))
 
-    pub is-whole : leb ((p - 1) * b) (2 ^ 64 - 1 - (b - 1)) ≡ true → p * b ≡ 2 ^ 64
-    is-whole l = omega (arith, passes k, one-less, leb-true ((p - 1) * b) (2 ^ 64 - 1 - (b - 1)) l)
+  pub is-whole : high ≡ 1 → low ≡ 0 → Whole ≡ against n
+  is-whole e f = sym (against-whole n (omega arith))
 
-    pub is-above : leb ((p - 1) * b) (2 ^ 64 - 1 - (b - 1)) ≡ false → 2 ^ 64 < p * b
-    is-above l = omega (arith, passes k, one-less, leb-false ((p - 1) * b) (2 ^ 64 - 1 - (b - 1)) l)
+  pub is-above : (high ≡ 0 → ⊥) → (high ≡ 1 → low ≡ 0 → ⊥) → Above ≡ against n
+  is-above k m = sym (against-above n (lt-of-le-ne (omega arith) (λ e. m (omega arith) (omega arith))))
 
 -- ---- one bound more
 

@@ -1,4 +1,7 @@
-// What a batch's bounds come to: whether one is 0, their product, whether it passes a limit, and the threshold t.
+// What a batch's bounds come to: whether one is 0, their product, whether it passes a limit, and the threshold t. How large a
+// product is, is told by the two halves of the wide product.
+use super::wide::high;
+use super::wide::low;
 ghost use mathlib.Core.Path.{_≡_};
 ghost use mathlib.Core.Bool.{false};
 ghost use Prim.Native.Nat.{_*_, _<_};
@@ -27,23 +30,23 @@ pub fn has_zero(bounds: &[u64]) -> bool
     false
 }
 
-// Whether p * b is at most the limit.
+// Whether p * b is at most the limit: its high half is 0, and its low half is at most the limit.
 pub fn within(p: u64, b: u64, limit: u64) -> bool
-    requires { ⌜ 0 < b ⌝ }
     ensures { λ r. ⌜ r ≡ leb (p * b) limit ⌝ }
 {
-    p <= limit / b
+    high(p, b) == 0 && low(p, b) <= limit
 }
 
-// p * b, held against 2^64. It is 2^64 where p * b - 1, which is (p - 1) * b + (b - 1), is the largest word.
+// p * b, held against 2^64: with high half 0 it is the low half; with high half 1 and low half 0 it is 2^64 itself; else it is above.
 fn product_of_two(p: u64, b: u64) -> Product
-    requires { ⌜ 0 < b ⌝ }
     ensures { λ r. ⌜ r ≡ against (p * b) ⌝ }
 {
-    if within(p, b, u64::MAX) {
-        return Product::Below(p * b);
+    let high = high(p, b);
+    let low = low(p, b);
+    if high == 0 {
+        return Product::Below(low);
     }
-    if within(p - 1, b, u64::MAX - (b - 1)) {
+    if high == 1 && low == 0 {
         return Product::Whole;
     }
     Product::Above

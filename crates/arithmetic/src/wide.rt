@@ -1,5 +1,6 @@
-// The product of two words, which has 128 bits, as its high and its low half. Each is made of products of
-// 32-bit halves, which fit a word; two functions, each of which a compiler turns into one multiplication.
+// The product of two words, which has 128 bits, as its high and its low half: rolls are made of it, and it tells whether a product
+// of bounds is too large. Each half is made of products of 32-bit halves, which fit a word; two functions, each of which a compiler
+// turns into one multiplication.
 ghost use mathlib.Core.Path.{_≡_};
 ghost use Prim.Native.Nat.{_*_, _/_, _%_, _^_};
 

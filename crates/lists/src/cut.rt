@@ -2,10 +2,8 @@
 use answers::limits::MAX_BATCH;
 use arithmetic::bounds::within;
 ghost use mathlib.Core.Path.{_≡_};
-ghost use mathlib.Core.Bool.{false};
 ghost use Prim.Native.Nat.{_<_};
 ghost use lib.ListN.{length};
-ghost use Rattle.rules.specs.Rolls.{hasZero};
 ghost use Rattle.rules.specs.Width.{w64};
 ghost use Rattle.lists.specs.Inner.{cutAt};
 
@@ -21,7 +19,7 @@ pub struct Cut {
 // The batch that begins at a place of the list: it takes the next bound whatever it is, and further bounds in order while the
 // batch has fewer than 16 and its product with the new bound is at most 2^56.
 pub fn cut_at(bounds: &[u64], at: usize) -> Cut
-    requires { ⌜ (at < length (now bounds)) × (hasZero (now bounds) ≡ false) ⌝ }
+    requires { ⌜ at < length (now bounds) ⌝ }
     ensures { λ r. ⌜ r ≡ cutAt w64 (now (bounds .entry)) at ⌝ }
 {
     let mut product = bounds[at];

@@ -56,10 +56,10 @@ pub fn write_list(words: &[u64], start: usize, bounds: &[u64], rolls: &mut [u64]
 //
 // The list is cut into batches, and each takes the first word after the one before it that it accepts. Refusals, the lowest that
 // applies: 2 above 4,096 bounds, 4 some bound 0, 6 the lent list too short, 9 start above the number of words, 10 the words end
-// before some batch has one; the lent list is then exactly what it was. Two passes over bounds and words, each with a division for
-// each bound that may join, a remainder for each batch and a multiplication for each word looked at; the two halves of a product for
-// each roll. With bounds 2, 6 and words 0, 1 the rolls are 0, 0, next is 2 and one word is rejected. While the rules stand the same
-// input has the same answer.
+// before some batch has one; the lent list is then exactly what it was. Two passes over bounds and words, each with the two halves
+// of a product for each bound that may join, a remainder for each batch and a multiplication for each word looked at; the two
+// halves of a product for each roll. With bounds 2, 6 and words 0, 1 the rolls are 0, 0, next is 2 and one word is rejected. While
+// the rules stand the same input has the same answer.
 pub fn roll_list(words: &[u64], start: usize, bounds: &[u64], rolls: &mut [u64]) -> Answer
     ensures answer { λ r. ⌜ r ≡ seenList w64 (now (words .entry)) start (now (bounds .entry)) (now (rolls .entry)) .0 ⌝ }
     ensures rolls { λ r. ⌜ now (rolls .exit) ≡ seenList w64 (now (words .entry)) start (now (bounds .entry)) (now (rolls .entry)) .1 ⌝ }

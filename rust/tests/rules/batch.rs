@@ -66,12 +66,14 @@ fn the_product_may_be_2_to_the_64_and_then_every_word_is_accepted() {
 
 #[test]
 fn a_product_above_2_to_the_64_is_refused_5() {
-    let products_above: [&[u64]; 10] = [
+    let products_above: [&[u64]; 12] = [
         &[274_177, 67_280_421_310_721], // 2^64 + 1
         &[67_280_421_310_721, 1, 274_177],
         &[1 << 63, 2, 1, 1, 2],
         &[1 << 63, 2, 2],
         &[1 << 63, 3],
+        &[1 << 63, 4],                         // 2^65
+        &[1 << 40, 1 << 40],                   // 2^80
         &[1 << 32, 1 << 32, 1 << 32, 1 << 32], // 2^128
         &[1 << 32, (1 << 32) + 1],
         &[2, 1 << 63, 1, u64::MAX],
@@ -82,6 +84,16 @@ fn a_product_above_2_to_the_64_is_refused_5() {
         for words in [&[][..], &[0], &[u64::MAX]] {
             assert_eq!(roll_batch(words, 0, bounds), batch_refused(5, 0), "bounds {bounds:?}");
         }
+    }
+}
+
+#[test]
+fn a_product_above_2_to_the_64_is_refused_5_whatever_its_low_half_is() {
+    let mut generator = Generator::new(4);
+    for _ in 0..cases(100_000) {
+        let low = generator.one_of(&[1, 2, (1 << 56) - 1, 1 << 56, u64::MAX]);
+        let bounds = generator.bounds_with_low_half(low);
+        assert_eq!(roll_batch(&[generator.word()], 0, &bounds), batch_refused(5, 0), "bounds {bounds:?}");
     }
 }
 

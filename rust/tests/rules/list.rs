@@ -72,11 +72,17 @@ fn a_batch_has_at_most_16_bounds() {
 fn the_exact_product_decides_where_a_product_with_wrap_would_let_a_bound_join() {
     is_cut_as(&[1 << 32, 1 << 32], &[1, 1]); // 0 with wrap at 64 bits
     is_cut_as(&[1 << 56, 256], &[1, 1]); // 0
+    is_cut_as(&[1 << 63, 4], &[1, 1]); // 0
     is_cut_as(&[1 << 32, (1 << 32) + 1], &[1, 1]); // 2^32
     is_cut_as(&[3, 0x5555_5555_5555_5556], &[1, 1]); // 2
     is_cut_as(&[1 << 40, (1 << 24) + 1, 5], &[1, 2]); // 2^40
     is_cut_as(&[1 << 56, u64::MAX], &[1, 1]);
     is_cut_as(&[2, (1 << 63) + 1], &[1, 1]); // 2
+    let mut generator = Generator::new(15);
+    for _ in 0..cases(100_000) {
+        let low = generator.one_of(&[1, 2, 1 << 28, (1 << 56) - 1, 1 << 56]);
+        is_cut_as(&generator.bounds_with_low_half(low), &[1, 1]);
+    }
 }
 
 #[test]

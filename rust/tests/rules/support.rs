@@ -164,6 +164,17 @@ impl Generator {
         bounds
     }
 
+    /// Two bounds whose product is far above 2^64, and whose low half is `low`: some odd number, and its inverse with
+    /// wrap at 64 bits times `low`. Each of Newton's steps doubles how many low bits of the inverse are right: first 3.
+    pub fn bounds_with_low_half(&mut self, low: u64) -> [u64; 2] {
+        let odd = self.word() | 1;
+        let inverse = (0..5).fold(odd, |x: u64, _| x.wrapping_mul(2_u64.wrapping_sub(odd.wrapping_mul(x))));
+        let bounds = [odd, inverse.wrapping_mul(low)];
+        let product = u128::from(bounds[0]) * u128::from(bounds[1]);
+        assert!(product >> 80 > 0 && product as u64 == low, "bounds {bounds:?}");
+        bounds
+    }
+
     /// Bounds that are powers of two, with product 2^`bits`, or less where one of them would pass 2^63.
     pub fn powers_of_two(&mut self, bits: u32) -> Vec<u64> {
         let mut bounds = vec![1_u64; self.between(2, 16)];

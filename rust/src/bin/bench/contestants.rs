@@ -137,6 +137,50 @@ pub fn unbatched(words: &[u64], records: &mut [u32]) -> Next {
     Some(next)
 }
 
+// ---- A list of bounds, cut into batches ----
+
+/// A roll for each bound, with a remainder for each batch.
+pub fn list(words: &[u64], bounds: &[u64], rolls: &mut [u64]) -> Next {
+    batches(words, bounds.len(), |i| bounds[i], |i, roll| rolls[i] = roll)
+}
+
+/// Rolls bounds that a function gives, in batches of up to 16 with a product of up to 2^56, and tells each roll.
+#[inline(always)]
+fn batches(words: &[u64], count: usize, bound: impl Fn(usize) -> u64, mut tell: impl FnMut(usize, u64)) -> Next {
+    let mut next = 0;
+    let mut at = 0;
+    while at < count {
+        let mut b = bound(at);
+        let mut size = 1;
+        while size < 16 && at + size < count {
+            match b.checked_mul(bound(at + size)) {
+                Some(product) if product <= 1 << 56 => b = product,
+                _ => break,
+            }
+            size += 1;
+        }
+        let t = threshold(b);
+        let mut rolls = [0; 16];
+        loop {
+            let mut r = *words.get(next)?;
+            next += 1;
+            for (i, roll) in (at..).zip(&mut rolls[..size]) {
+                let x = u128::from(bound(i)) * u128::from(r);
+                r = x as u64;
+                *roll = (x >> 64) as u64;
+            }
+            if r >= t {
+                break;
+            }
+        }
+        for (i, &roll) in (at..).zip(&rolls[..size]) {
+            tell(i, roll);
+        }
+        at += size;
+    }
+    Some(next)
+}
+
 // ---- The sample ----
 
 /// The reservoir, then the shuffle of its slots with one loop for all batch sizes.
@@ -154,38 +198,12 @@ pub fn sample_by_constant_sizes(words: &[u64], records: &[u32], k: usize, slots:
 /// The reservoir with a remainder for each batch.
 fn reservoir(words: &[u64], records: &[u32], k: usize, slots: &mut [u32]) -> Next {
     slots[..k].copy_from_slice(&records[..k]);
-    let mut next = 0;
-    let mut i = k;
-    while i < records.len() {
-        let mut b = i as u64 + 1;
-        let mut size = 1;
-        while size < 16 && i + size < records.len() {
-            match b.checked_mul((i + size) as u64 + 1) {
-                Some(product) if product <= 1 << 56 => b = product,
-                _ => break,
-            }
-            size += 1;
+    let later = &records[k..];
+    let bound = |i| (k + i) as u64 + 1;
+    let tell = |i: usize, j| {
+        if j < k as u64 {
+            slots[j as usize] = later[i];
         }
-        let t = threshold(b);
-        let mut rolls = [0; 16];
-        loop {
-            let mut r = *words.get(next)?;
-            next += 1;
-            for (place, roll) in (i..).zip(&mut rolls[..size]) {
-                let x = (place + 1) as u128 * u128::from(r);
-                r = x as u64;
-                *roll = (x >> 64) as usize;
-            }
-            if r >= t {
-                break;
-            }
-        }
-        for (place, &j) in (i..).zip(&rolls[..size]) {
-            if j < k {
-                slots[j] = records[place];
-            }
-        }
-        i += size;
-    }
-    Some(next)
+    };
+    batches(words, later.len(), bound, tell)
 }

@@ -1,9 +1,14 @@
-//! The benchmark: the library beside Rust written for speed, on equal words, in one run. Each line has the least time of
-//! many rounds, and the ratio of the library's time to it. The rounds go through all of a table's contestants in turn,
-//! so that whatever else the machine does meets each of them.
+//! The benchmark: the library beside Rust written for speed, on equal words, in one run, and beside the library of an
+//! earlier commit where its shared object is named. Each line has the least time of many rounds, and the ratio of the
+//! library's time to it. The rounds go through all of a table's contestants in turn, so that whatever else the machine
+//! does meets each of them.
 
+mod before;
 mod contestants;
 
+use before::Before;
+use contestants::Next;
+use std::env;
 use std::hint::black_box;
 use std::time::{Duration, Instant};
 
@@ -12,12 +17,18 @@ const ROUNDS: usize = 400;
 /// A name and what is timed under it.
 type Contestant<'a> = (&'a str, Box<dyn FnMut() + 'a>);
 
+/// A name and a call under it, on a lent list.
+type Named<'a, T> = (&'a str, Box<dyn Fn(&mut [T]) -> Next + 'a>);
+
 fn main() {
+    let before = env::args().nth(1).map(|path| Before::load(&path));
+    let before = before.as_ref();
     println!("least time of {ROUNDS} rounds; ratio: the time of the table's first line to the line's own\n");
-    shuffles(512, 64);
-    shuffles(16_384, 2);
-    samples(64, 16_384, 2);
-    samples(8_192, 16_384, 2);
+    lists(4_096, 8, before);
+    shuffles(512, 64, before);
+    shuffles(16_384, 2, before);
+    samples(64, 16_384, 2, before);
+    samples(8_192, 16_384, 2, before);
     ways_back(16_384, 2);
 }
 
@@ -31,61 +42,58 @@ fn words(count: usize) -> Vec<u64> {
     (0..count).map(|_| next()).collect()
 }
 
-fn shuffles(n: usize, calls: u32) {
-    // More words than the unbatched shuffle needs, with rejected ones.
-    let words = words(2 * n);
-    let library = |records: &mut [u32]| hildrasp::shuffle(&words, 0, records).ok().map(|used| used.next);
-    let records: Vec<u32> = (0..n as u32).collect();
-    let shuffled = |shuffle: &dyn Fn(&mut [u32]) -> contestants::Next| {
-        let mut records = records.clone();
-        (shuffle(&mut records), records)
-    };
-    let variable_sizes = |records: &mut [u32]| contestants::variable_sizes(&words, 0, records);
-    let constant_sizes = |records: &mut [u32]| contestants::constant_sizes(&words, 0, records);
-    let rare_remainders = |records: &mut [u32]| contestants::rare_remainders(&words, records);
-    let unbatched = |records: &mut [u32]| contestants::unbatched(&words, records);
-    let wanted = shuffled(&library);
-    assert!(wanted.0.is_some() && shuffled(&unbatched).0.is_some(), "the words suffice");
-    assert!(wanted == shuffled(&variable_sizes), "equal words give equal records");
-    assert!(wanted == shuffled(&constant_sizes), "equal words give equal records");
-    assert!(wanted == shuffled(&rare_remainders), "equal words give equal records");
-    race(
-        &format!("shuffle of {n} records"),
-        calls,
-        vec![
-            ("the library", timed(&records, library)),
-            ("one pass, a remainder for each batch, variable size", timed(&records, variable_sizes)),
-            ("one pass, a remainder for each batch, constant sizes", timed(&records, constant_sizes)),
-            ("one pass, a remainder where r is below b, constant sizes", timed(&records, rare_remainders)),
-            ("one pass, not batched", timed(&records, unbatched)),
-        ],
-    );
+fn lists(count: usize, calls: u32, before: Option<&Before>) {
+    let words = words(count);
+    // Bounds of 14 bits: their top bit and thirteen random ones.
+    let bounds: Vec<u64> = words.iter().map(|word| 1 << 13 | word >> 51).collect();
+    let (words, bounds) = (&words[..], &bounds[..]);
+    let mut all: Vec<Named<u64>> =
+        vec![("the library", Box::new(move |rolls| used(hildrasp::roll_list(words, 0, bounds, rolls))))];
+    if let Some(before) = before {
+        all.push(("the library before", Box::new(move |rolls| before.roll_list(words, bounds, rolls))));
+    }
+    all.push((ALWAYS, Box::new(move |rolls| contestants::list(words, bounds, rolls))));
+    race(&format!("a list of {count} bounds of 14 bits"), calls, agreeing(&vec![0; count], all));
 }
 
-fn samples(k: usize, n: usize, calls: u32) {
+const ALWAYS: &str = "one pass, a remainder for each batch";
+const VARIABLE: &str = "one pass, a remainder for each batch, variable size";
+const CONSTANT: &str = "one pass, a remainder for each batch, constant sizes";
+const RARELY: &str = "one pass, a remainder where r is below b, constant sizes";
+const UNBATCHED: &str = "one pass, not batched";
+
+fn shuffles(n: usize, calls: u32, before: Option<&Before>) {
+    // More words than the unbatched shuffle needs, with rejected ones.
+    let words = words(2 * n);
+    let words = &words[..];
+    let mut all: Vec<Named<u32>> =
+        vec![("the library", Box::new(move |records| used(hildrasp::shuffle(words, 0, records))))];
+    if let Some(before) = before {
+        all.push(("the library before", Box::new(move |records| before.shuffle(words, records))));
+    }
+    all.push((VARIABLE, Box::new(move |records| contestants::variable_sizes(words, 0, records))));
+    all.push((CONSTANT, Box::new(move |records| contestants::constant_sizes(words, 0, records))));
+    all.push((RARELY, Box::new(move |records| contestants::rare_remainders(words, records))));
+    // The unbatched shuffle gives other records, and agrees with itself alone.
+    let other: Vec<Named<u32>> = vec![(UNBATCHED, Box::new(move |records| contestants::unbatched(words, records)))];
+    let records: Vec<u32> = (0..n as u32).collect();
+    let mut contestants = agreeing(&records, all);
+    contestants.extend(agreeing(&records, other));
+    race(&format!("shuffle of {n} records"), calls, contestants);
+}
+
+fn samples(k: usize, n: usize, calls: u32, before: Option<&Before>) {
     let words = words(n);
     let records: Vec<u32> = (0..n as u32).collect();
-    let library = |slots: &mut [u32]| hildrasp::sample(&words, 0, &records, k, slots).ok().map(|used| used.next);
-    let variable_sizes = |slots: &mut [u32]| contestants::sample_by_variable_sizes(&words, &records, k, slots);
-    let constant_sizes = |slots: &mut [u32]| contestants::sample_by_constant_sizes(&words, &records, k, slots);
-    let slots = vec![0; k];
-    let sampled = |sample: &dyn Fn(&mut [u32]) -> contestants::Next| {
-        let mut slots = slots.clone();
-        (sample(&mut slots), slots)
-    };
-    let wanted = sampled(&library);
-    assert!(wanted.0.is_some(), "the words suffice");
-    assert!(wanted == sampled(&variable_sizes), "equal words give equal slots");
-    assert!(wanted == sampled(&constant_sizes), "equal words give equal slots");
-    race(
-        &format!("sample of {k} from {n} records"),
-        calls,
-        vec![
-            ("the library", timed(&slots, library)),
-            ("one pass, a remainder for each batch, variable size", timed(&slots, variable_sizes)),
-            ("one pass, a remainder for each batch, constant sizes", timed(&slots, constant_sizes)),
-        ],
-    );
+    let (words, records) = (&words[..], &records[..]);
+    let mut all: Vec<Named<u32>> =
+        vec![("the library", Box::new(move |slots| used(hildrasp::sample(words, 0, records, k, slots))))];
+    if let Some(before) = before {
+        all.push(("the library before", Box::new(move |slots| before.sample(words, records, k, slots))));
+    }
+    all.push((VARIABLE, Box::new(move |slots| contestants::sample_by_variable_sizes(words, records, k, slots))));
+    all.push((CONSTANT, Box::new(move |slots| contestants::sample_by_constant_sizes(words, records, k, slots))));
+    race(&format!("sample of {k} from {n} records"), calls, agreeing(&vec![0; k], all));
 }
 
 fn ways_back(n: usize, calls: u32) {
@@ -101,6 +109,25 @@ fn ways_back(n: usize, calls: u32) {
         calls,
         vec![("the library", timed(&rolls, way_back)), ("the library's shuffle", timed(&order, shuffle))],
     );
+}
+
+/// The place after the last word that the library used.
+fn used(answer: Result<hildrasp::Used, hildrasp::Refusal>) -> Next {
+    answer.ok().map(|used| used.next)
+}
+
+/// The contestants, each on a list of its own, once it is seen that all succeed and give equal results.
+fn agreeing<'a, T: Clone + PartialEq + 'a>(list: &[T], calls: Vec<Named<'a, T>>) -> Vec<Contestant<'a>> {
+    let result = |call: &dyn Fn(&mut [T]) -> Next| {
+        let mut list = list.to_vec();
+        (call(&mut list), list)
+    };
+    let wanted = result(&calls[0].1);
+    assert!(wanted.0.is_some(), "the words suffice");
+    for (name, call) in &calls {
+        assert!(result(call) == wanted, "{name}: equal words give equal results");
+    }
+    calls.into_iter().map(|(name, call)| (name, timed(list, call))).collect()
 }
 
 /// A call on a list of its own, over and over.

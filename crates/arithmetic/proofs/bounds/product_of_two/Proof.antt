@@ -1,50 +1,32 @@
--- `arithmetic::bounds::product_of_two` meets its contract: the first test tells that the product is below 2^64, the second that it is
--- 2^64 itself. Assumes nothing.
-use mathlib.Core.Path.{_∙_, sym}
-use Rattle.arithmetic.proofs.Limits.{against-below, against-whole, against-above, is-below, some, is-whole, is-above}
+-- `arithmetic::bounds::product_of_two` meets its contract: the halves tell where the product lies. Assumes nothing.
+use mathlib.Core.Logic.{⊎-elim}
+use Prim.Native.Nat.{_*_}
+use Rattle.arithmetic.proofs.Limits.{is-below, is-whole, is-above}
 use borrow.Author.Needs.{needs}
+use borrow.Author.Tests.{eqb-true, eqb-false}
 use Rattle.arithmetic.proofs.bounds.product_of_two.Statement.{statement}
 use Rattle.arithmetic.proofs.bounds.product_of_two.Tie as tie
 
-within-requires : tie.Need-within-requires
-within-requires c κs = search needs
+high-requires : tie.Need-high-requires
+high-requires c κs = search needs
 
-mul-t4 : tie.Need-mul-t4
-mul-t4 c = record { fits = is-below _ _ (sym (c .before .within .ensures) ∙ c .if1 .taken) }
+low-requires : tie.Need-low-requires
+low-requires c κs = search needs
 
 returns : tie.Need-returns
-returns c = sym (against-below _ (is-below _ _ (sym (c .before .within .ensures) ∙ c .if1 .taken)))
-
-sub-within : tie.Need-sub-within
-sub-within c = some _ _ (sym (c .before .within .ensures) ∙ c .if1 .left)
-
-sub-within-2 : tie.Need-sub-within-2
-sub-within-2 c = search needs
-
-sub-within-3 : tie.Need-sub-within-3
-sub-within-3 c = search needs
-
-within-requires-2 : tie.Need-within-requires-2
-within-requires-2 c κs = search needs
+returns c = let a = c .before .before .before .args in
+    is-below (a .p * a .b) _ _ (c .before .before .high .ensures) (c .before .low .ensures) (c .if1 .taken)
 
 returns-2 : tie.Need-returns-2
-returns-2 c = let s = c .before .before .before .before in
-    sym (against-whole _ (is-whole _ (s .args .b) (s .pre) (s .fits .b .fits) (sym (c .before .before .before .within .ensures) ∙ c .before .before .if1 .left) (sym (c .before .within2 .ensures) ∙ c .if2 .taken)))
+returns-2 c = let after-low = c .before .before .before in
+    let a = after-low .before .before .args in
+    is-whole (a .p * a .b) _ _ (after-low .before .high .ensures) (after-low .low .ensures) (c .before .if2 .taken) (eqb-true _ _ (c .if3 .taken))
 
 returns-3 : tie.Need-returns-3
-returns-3 c = let s = c .before .before .before .before in
-    sym (against-above _ (is-above _ (s .args .b) (s .pre) (s .fits .b .fits) (sym (c .before .before .before .within .ensures) ∙ c .before .before .if1 .left) (sym (c .before .within2 .ensures) ∙ c .if2 .left)))
+returns-3 c = let after-low = c .before .before in
+    let a = after-low .before .before .args in
+    is-above (a .p * a .b) _ _ (after-low .before .high .ensures) (after-low .low .ensures) (c .before .if1 .left)
+    (λ e f. ⊎-elim (λ w. eqb-false _ _ (w .1 .left) f) (λ w. w .left e) (c .if2 .came))
 
 pub product-of-two-spec : {M : Type 1} → statement M
-product-of-two-spec =
-    tie.close
-    (tie.spec
-    within-requires
-    mul-t4
-    returns
-    sub-within
-    sub-within-2
-    sub-within-3
-    within-requires-2
-    returns-2
-    returns-3)
+product-of-two-spec = tie.close (tie.spec high-requires low-requires returns returns-2 returns-3)

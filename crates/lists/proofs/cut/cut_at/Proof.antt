@@ -9,7 +9,6 @@ use borrow.Author.Needs.{needs}
 use lib.ListN.{length, getD}
 use Rattle.rules.specs.Width.{w64}
 use Rattle.lists.proofs.Cutting.{Cutting, cut-first, cut-turn, cut-list-ends, cut-full, cut-passes, cut-found}
-use Rattle.rules.proofs.Products.{zero-nowhere}
 use Rattle.lists.proofs.cut.cut_at.Statement.{statement}
 use Rattle.lists.proofs.cut.cut_at.Tie as tie
 
@@ -41,7 +40,7 @@ sub-if1 : tie.Need-sub-if1 Inv-loop μ-loop
 sub-if1 c = search needs
 
 within-requires : tie.Need-within-requires Inv-loop μ-loop
-within-requires c κs = let turn = c .before .before .before in zero-nowhere _ _ (turn .before .before .before .pre .1) (search needs)
+within-requires c κs = search needs
 
 mul-product-2 : tie.Need-mul-product-2 Inv-loop μ-loop
 mul-product-2 c = let turn = c .before .before .before .before .before in
