@@ -76,8 +76,8 @@ pub struct Explanation {
 /// **Refusals, in this order:** 2 [`Count`](Refusal::Count), 4 [`Zero`](Refusal::Zero),
 /// 5 [`Product`](Refusal::Product), 9 [`Start`](Refusal::Start), 10 [`Words`](Refusal::Words).
 ///
-/// **Cost:** the two halves of a product for each bound and for each roll; one remainder; a multiplication for each
-/// word looked at.
+/// **Cost:** the two halves of a product for each bound and for each roll; one remainder, none for a product of 2^64; a
+/// multiplication for each word looked at.
 ///
 /// Under the same rules the answer to the same words, start and bounds never changes.
 ///

@@ -1,6 +1,6 @@
 -- Products held against a limit, and products that wrap. Assumes nothing.
 --
---   against-below, against-whole, against-above   what is held of a number, by where it lies
+--   against-whole, against-above                  what is held of a number, by where it lies
 --   held-below, held-whole, held-above            where a number lies, by what is held of it
 --   beyond-words, within-word                     whether a number is at most a limit that is a word, by its halves
 --   is-below, is-whole, is-above                  what is held of a number, by its halves
@@ -22,7 +22,7 @@ use Rattle.rules.proofs.Facts.{clash}
 
 -- ---- what is held against 2^64
 
-pub against-below : (n : ℕ) → n < 2 ^ 64 → against n ≡ Below n
+against-below : (n : ℕ) → n < 2 ^ 64 → against n ≡ Below n
 unfolding against
 against-below n h = rw (lt-ltb n (2 ^ 64) h, against)
 

@@ -48,8 +48,9 @@ fn draw_batch(words: &[u64], start: usize, bounds: &[u64], b: u64) -> Batch
 //
 // The first accepted word from the start on is used, and every word before it rejected. Refusals, the lowest that applies: 2 no
 // bound or more than 16, 4 some bound 0, 5 product above 2^64, 9 start above the number of words, 10 no word accepted. The two
-// halves of a product for each bound and for each roll, one remainder, a multiplication for each word looked at. With bounds 2, 6
-// and words 0, 1 the rolls are 0, 0, next is 2 and one word is rejected. While the rules stand the same input has the same answer.
+// halves of a product for each bound and for each roll, one remainder, none for a product of 2^64, and a multiplication for each
+// word looked at. With bounds 2, 6 and words 0, 1 the rolls are 0, 0, next is 2 and one word is rejected. While the rules stand the
+// same input has the same answer.
 pub fn roll_batch(words: &[u64], start: usize, bounds: &[u64]) -> Batch
     ensures { λ r. ⌜ r ≡ seenBatch w64 (now (words .entry)) start (now (bounds .entry)) ⌝ }
 {

@@ -74,9 +74,9 @@ fn run_behind(a: u64, b: u64) -> Behind
 // The words behind rolls, the first and the last of their run: these, and no other words, give the rolls for these bounds, accepted.
 //
 // No word is used; next and rejected are 0. Refusals, the lowest that applies: 2 no bound or more than 16, 4 some bound 0, 5
-// product above 2^64, 7 rolls and bounds differ in count or a roll reaches its bound. The two halves of a product for each bound,
-// and, but for a product of 2^64, a division and 64 steps of long division. For bounds 2, 6 and rolls 0, 0: 1 to
-// 1537228672809129301. While the rules stand the same input has the same answer.
+// product above 2^64, 7 rolls and bounds differ in count or a roll reaches its bound. The two halves of a product and a
+// multiplication for each bound, and, but for a product of 2^64, a remainder, a division and 64 steps of long division. For bounds
+// 2, 6 and rolls 0, 0: 1 to 1537228672809129301. While the rules stand the same input has the same answer.
 pub fn words_behind(bounds: &[u64], rolls: &[u64]) -> Behind
     ensures { λ r. ⌜ r ≡ seenBehind w64 (now (bounds .entry)) (now (rolls .entry)) ⌝ }
 {

@@ -164,8 +164,8 @@ impl Generator {
         bounds
     }
 
-    /// Two bounds whose product is far above 2^64, and whose low half is `low`: some odd number, and its inverse with
-    /// wrap at 64 bits times `low`. Each of Newton's steps doubles how many low bits of the inverse are right: first 3.
+    /// Two bounds whose product is far above 2^64 and has the low half `low`: some odd number, and its inverse with wrap
+    /// at 64 bits times `low`. Each of Newton's five steps doubles the low bits of the inverse that are right, 3 at first.
     pub fn bounds_with_low_half(&mut self, low: u64) -> [u64; 2] {
         let odd = self.word() | 1;
         let inverse = (0..5).fold(odd, |x: u64, _| x.wrapping_mul(2_u64.wrapping_sub(odd.wrapping_mul(x))));

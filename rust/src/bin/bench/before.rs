@@ -1,23 +1,9 @@
 //! The library of an earlier commit, as a shared object made of its archive, so that both are timed in one run.
 
 use crate::contestants::Next;
+use hildrasp::raw::Answer;
 use std::ffi::{c_char, c_int, c_void, CString};
 use std::mem::transmute;
-
-/// What `hildrasp_answer` of the C header is.
-#[repr(C)]
-struct Answer {
-    no: u64,
-    next: usize,
-    rejected: usize,
-    batch: usize,
-}
-
-impl Answer {
-    fn next(self) -> Next {
-        (self.no == 0).then_some(self.next)
-    }
-}
 
 type RollList = unsafe extern "C" fn(*const u64, usize, usize, *const u64, usize, *mut u64, usize) -> Answer;
 type Shuffle = unsafe extern "C" fn(*const u64, usize, usize, *mut u32, usize) -> Answer;
@@ -42,8 +28,7 @@ impl Before {
     /// The library in a shared object, which stays loaded.
     pub fn load(path: &str) -> Self {
         let file = CString::new(path).expect("a path has no zero byte");
-        // Safety: the object is one of this library's, whose loading runs no code; the names are those of its C face,
-        // whose types are as above.
+        // Safety: the object is made of an archive of this library, whose C face has these names with these types.
         unsafe {
             let object = dlopen(file.as_ptr(), NOW);
             assert!(!object.is_null(), "{path} is no shared object");
@@ -66,15 +51,20 @@ impl Before {
 
     pub fn roll_list(&self, words: &[u64], bounds: &[u64], rolls: &mut [u64]) -> Next {
         let (room, rolls) = (rolls.len(), rolls.as_mut_ptr());
-        unsafe { (self.roll_list)(words.as_ptr(), words.len(), 0, bounds.as_ptr(), bounds.len(), rolls, room) }.next()
+        next(unsafe { (self.roll_list)(words.as_ptr(), words.len(), 0, bounds.as_ptr(), bounds.len(), rolls, room) })
     }
 
     pub fn shuffle(&self, words: &[u64], records: &mut [u32]) -> Next {
-        unsafe { (self.shuffle)(words.as_ptr(), words.len(), 0, records.as_mut_ptr(), records.len()) }.next()
+        next(unsafe { (self.shuffle)(words.as_ptr(), words.len(), 0, records.as_mut_ptr(), records.len()) })
     }
 
     pub fn sample(&self, words: &[u64], records: &[u32], k: usize, slots: &mut [u32]) -> Next {
         let (room, slots) = (slots.len(), slots.as_mut_ptr());
-        unsafe { (self.sample)(words.as_ptr(), words.len(), 0, records.as_ptr(), records.len(), k, slots, room) }.next()
+        next(unsafe { (self.sample)(words.as_ptr(), words.len(), 0, records.as_ptr(), records.len(), k, slots, room) })
     }
+}
+
+/// The place after the last word used.
+fn next(answer: Answer) -> Next {
+    (answer.no == 0).then_some(answer.next)
 }

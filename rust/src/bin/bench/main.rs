@@ -14,6 +14,14 @@ use std::time::{Duration, Instant};
 
 const ROUNDS: usize = 400;
 
+const LIBRARY: &str = "the library";
+const BEFORE: &str = "the library before";
+const ALWAYS: &str = "one pass, a remainder for each batch";
+const VARIABLE: &str = "one pass, a remainder for each batch, variable size";
+const CONSTANT: &str = "one pass, a remainder for each batch, constant sizes";
+const RARELY: &str = "one pass, a remainder where r is below b, constant sizes";
+const UNBATCHED: &str = "one pass, not batched";
+
 /// A name and what is timed under it.
 type Contestant<'a> = (&'a str, Box<dyn FnMut() + 'a>);
 
@@ -43,33 +51,26 @@ fn words(count: usize) -> Vec<u64> {
 }
 
 fn lists(count: usize, calls: u32, before: Option<&Before>) {
-    let words = words(count);
-    // Bounds of 14 bits: their top bit and thirteen random ones.
-    let bounds: Vec<u64> = words.iter().map(|word| 1 << 13 | word >> 51).collect();
+    // Bounds of 14 bits, their top bit and thirteen random ones: every batch has four.
+    let mut words = words(2 * count);
+    let bounds: Vec<u64> = words.split_off(count).iter().map(|word| 1 << 13 | word >> 51).collect();
     let (words, bounds) = (&words[..], &bounds[..]);
     let mut all: Vec<Named<u64>> =
-        vec![("the library", Box::new(move |rolls| used(hildrasp::roll_list(words, 0, bounds, rolls))))];
+        vec![(LIBRARY, Box::new(move |rolls| used(hildrasp::roll_list(words, 0, bounds, rolls))))];
     if let Some(before) = before {
-        all.push(("the library before", Box::new(move |rolls| before.roll_list(words, bounds, rolls))));
+        all.push((BEFORE, Box::new(move |rolls| before.roll_list(words, bounds, rolls))));
     }
     all.push((ALWAYS, Box::new(move |rolls| contestants::list(words, bounds, rolls))));
     race(&format!("a list of {count} bounds of 14 bits"), calls, agreeing(&vec![0; count], all));
 }
 
-const ALWAYS: &str = "one pass, a remainder for each batch";
-const VARIABLE: &str = "one pass, a remainder for each batch, variable size";
-const CONSTANT: &str = "one pass, a remainder for each batch, constant sizes";
-const RARELY: &str = "one pass, a remainder where r is below b, constant sizes";
-const UNBATCHED: &str = "one pass, not batched";
-
 fn shuffles(n: usize, calls: u32, before: Option<&Before>) {
     // More words than the unbatched shuffle needs, with rejected ones.
     let words = words(2 * n);
     let words = &words[..];
-    let mut all: Vec<Named<u32>> =
-        vec![("the library", Box::new(move |records| used(hildrasp::shuffle(words, 0, records))))];
+    let mut all: Vec<Named<u32>> = vec![(LIBRARY, Box::new(move |records| used(hildrasp::shuffle(words, 0, records))))];
     if let Some(before) = before {
-        all.push(("the library before", Box::new(move |records| before.shuffle(words, records))));
+        all.push((BEFORE, Box::new(move |records| before.shuffle(words, records))));
     }
     all.push((VARIABLE, Box::new(move |records| contestants::variable_sizes(words, 0, records))));
     all.push((CONSTANT, Box::new(move |records| contestants::constant_sizes(words, 0, records))));
@@ -77,9 +78,9 @@ fn shuffles(n: usize, calls: u32, before: Option<&Before>) {
     // The unbatched shuffle gives other records, and agrees with itself alone.
     let other: Vec<Named<u32>> = vec![(UNBATCHED, Box::new(move |records| contestants::unbatched(words, records)))];
     let records: Vec<u32> = (0..n as u32).collect();
-    let mut contestants = agreeing(&records, all);
-    contestants.extend(agreeing(&records, other));
-    race(&format!("shuffle of {n} records"), calls, contestants);
+    let mut all = agreeing(&records, all);
+    all.extend(agreeing(&records, other));
+    race(&format!("shuffle of {n} records"), calls, all);
 }
 
 fn samples(k: usize, n: usize, calls: u32, before: Option<&Before>) {
@@ -87,9 +88,9 @@ fn samples(k: usize, n: usize, calls: u32, before: Option<&Before>) {
     let records: Vec<u32> = (0..n as u32).collect();
     let (words, records) = (&words[..], &records[..]);
     let mut all: Vec<Named<u32>> =
-        vec![("the library", Box::new(move |slots| used(hildrasp::sample(words, 0, records, k, slots))))];
+        vec![(LIBRARY, Box::new(move |slots| used(hildrasp::sample(words, 0, records, k, slots))))];
     if let Some(before) = before {
-        all.push(("the library before", Box::new(move |slots| before.sample(words, records, k, slots))));
+        all.push((BEFORE, Box::new(move |slots| before.sample(words, records, k, slots))));
     }
     all.push((VARIABLE, Box::new(move |slots| contestants::sample_by_variable_sizes(words, records, k, slots))));
     all.push((CONSTANT, Box::new(move |slots| contestants::sample_by_constant_sizes(words, records, k, slots))));
@@ -107,7 +108,7 @@ fn ways_back(n: usize, calls: u32) {
     race(
         &format!("rolls behind an order of {n}"),
         calls,
-        vec![("the library", timed(&rolls, way_back)), ("the library's shuffle", timed(&order, shuffle))],
+        vec![(LIBRARY, timed(&rolls, way_back)), ("the library's shuffle", timed(&order, shuffle))],
     );
 }
 
@@ -117,17 +118,17 @@ fn used(answer: Result<hildrasp::Used, hildrasp::Refusal>) -> Next {
 }
 
 /// The contestants, each on a list of its own, once it is seen that all succeed and give equal results.
-fn agreeing<'a, T: Clone + PartialEq + 'a>(list: &[T], calls: Vec<Named<'a, T>>) -> Vec<Contestant<'a>> {
+fn agreeing<'a, T: Clone + PartialEq + 'a>(list: &[T], all: Vec<Named<'a, T>>) -> Vec<Contestant<'a>> {
     let result = |call: &dyn Fn(&mut [T]) -> Next| {
         let mut list = list.to_vec();
         (call(&mut list), list)
     };
-    let wanted = result(&calls[0].1);
+    let wanted = result(&all[0].1);
     assert!(wanted.0.is_some(), "the words suffice");
-    for (name, call) in &calls {
+    for (name, call) in &all {
         assert!(result(call) == wanted, "{name}: equal words give equal results");
     }
-    calls.into_iter().map(|(name, call)| (name, timed(list, call))).collect()
+    all.into_iter().map(|(name, call)| (name, timed(list, call))).collect()
 }
 
 /// A call on a list of its own, over and over.
