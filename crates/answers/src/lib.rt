@@ -2,6 +2,8 @@
 // several operations share stand here too.
 //
 // Contracts cite specs/: Outcome (refusals, and what a caller sees) and Supplied.
+#![tactic(auto)]
+
 pub mod answer;
 pub mod limits;
 pub mod refusal;

@@ -2,5 +2,7 @@
 //
 // Contracts cite specs/Area: a number of so many bytes at a place, the numbers that stand one behind the other from a place on, and the
 // bytes of both.
+#![tactic(auto)]
+
 pub mod read;
 pub mod write;

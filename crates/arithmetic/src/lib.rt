@@ -2,5 +2,7 @@
 // here knows of word lists or records.
 //
 // Contracts cite specs/: Products (a product held against 2^64).
+#![tactic(auto)]
+
 pub mod bounds;
 pub mod wide;

@@ -1,5 +1,7 @@
 // The draw-sheet program: a draw sheet on standard input, its draw on standard output. Every byte that is printed is the proved library's;
 // reading the sheet and writing the text, once each, are left to here.
+#![tactic(auto)]
+
 use libc::{STDIN_FILENO, STDOUT_FILENO};
 use lines::text::{OUTPUT, write_output};
 

@@ -3,6 +3,8 @@
 //
 // Each contract has two parts: what the caller sees is what the definitions say (seen_batch and so on, the very contract of the code
 // below); and that meets demands 1 and 2 (promises/specs), for every call, with nothing left to be checked of the lists.
+#![tactic(auto)]
+
 ghost use Rattle.std.specs.Prelude.{◌≡◌};
 ghost use Rattle.rules.specs.Width.{w64};
 ghost use Rattle.rolls.specs.Batch.{seen_batch};

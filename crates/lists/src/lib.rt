@@ -2,6 +2,8 @@
 // ask what their callers know.
 //
 // Contracts cite specs/: List (refusals, plan and reading of a list) and Inner (what the cut answers).
+#![tactic(auto)]
+
 pub mod cut;
 pub mod list;
 pub mod supply;

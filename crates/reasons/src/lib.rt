@@ -2,5 +2,7 @@
 //
 // Contracts cite specs/: Fate (what became of a place) and Why (the refusals, and what a caller sees). That what is told is what
 // happened, and that nothing else did, is said in specs/Happened and specs/Pinned.
+#![tactic(auto)]
+
 pub mod fate;
 pub mod why;

@@ -2,6 +2,8 @@
 // input; the search and the unfolding ask what their callers know.
 //
 // Contracts cite specs/: Batch (refusals, plan and reading of one batch) and Inner (what the inner functions answer).
+#![tactic(auto)]
+
 pub mod batch;
 pub mod check;
 pub mod search;

@@ -25,7 +25,8 @@ pub length-reservoir : (slots xs js : List ℕ) → length (reservoir slots xs j
 unfolding reservoir
 length-reservoir slots [] js = refl
 length-reservoir slots (x ∷ xs) [] = refl
-length-reservoir slots (x ∷ xs) (j ∷ js) = length-reservoir _ xs js ∙ go (ltb j (length slots))
+length-reservoir slots (x ∷ xs) (j ∷ js) =
+    length-reservoir (elim (ltb j (length slots)) [ true ↦ set slots j x | false ↦ slots ]) xs js ∙ go (ltb j (length slots))
   where
     go : (t : Bool) → length {A = ℕ} (elim t [ true ↦ set slots j x | false ↦ slots ]) ≡ length slots
     go true = length-set slots j x

@@ -2,5 +2,7 @@
 // operation (behind) answers every input.
 //
 // Contracts cite specs/: Behind (refusals and answer) and Inner.
+#![tactic(auto)]
+
 pub mod behind;
 pub mod divide;
