@@ -1,0 +1,22 @@
+-- `rolls::search::find_word` meets its contract. The loop's invariant: t is the threshold, the search of what is left finds what the
+-- whole search finds, and the words passed are rejected. The measure is the words that are left. Assumes nothing.
+use mathlib.Core.Path.{◌≡◌, ◌∙◌, sym, ap}
+use Prim.Native.Nat.{ℕ, ◌-◌, ◌≤◌, ◌<◌}
+use lib.ListN.{length, drop, get_or}
+use borrow.Author.Tests.{le-leb, lt-leb}
+use Rattle.rules.specs.Rolls.{threshold}
+use Rattle.rules.specs.Run.{find}
+use Rattle.rules.proofs.Finding.{find_end, find_hit, find_miss}
+use Rattle.arithmetic.specs.Products.{unwrap}
+use Rattle.rolls.specs.Inner.{passes, searched}
+use Rattle.rolls.specs.declared.search.Search.TheVariants.{Hit}
+use Rattle.rolls.proofs.Searching.{passes_tested}
+use borrow.Author.Rules.{rules}
+use Rattle.rolls.proofs.search.find_word.Given as goal
+
+abbrev pub invariant-loop-at : goal.invariant-loop-at
+invariant-loop-at l = (l.start ≤ l.at) × (l.at ≤ length l.words) × (l.rejected ≡ l.at - l.start) × (l.t ≡ threshold 64 (unwrap 64 l.b))
+    × (find (passes 64 (unwrap 64 l.b)) (drop l.at l.words) l.at ≡ find (passes 64 (unwrap 64 l.b)) (drop l.start l.words) l.start)
+
+abbrev pub decreases-loop-at : goal.decreases-loop-at
+decreases-loop-at l = length l.words - l.at
