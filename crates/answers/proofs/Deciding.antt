@@ -26,7 +26,7 @@ use Rattle.rules.proofs.Facts.{clash}
 use Rattle.rules.specs.Limits.{max_batch}
 use Rattle.rules.specs.Width.{Width}
 use Rattle.rules.specs.Run.{Taken, Run, ran, short, suffices, run, trace, next, rejected}
-use Rattle.answers.specs.Outcome.{Outcome, refused, done, Refusal, no, no_word, decide, outside, of_bounds, of_words, shown, left}
+use Rattle.answers.specs.Outcome.{Outcome, refused, done, Refusal, no_word, decide, outside, of_bounds, of_words, shown, left}
 use Rattle.answers.specs.declared.answer.Answer.{Answer}
 use Rattle.answers.specs.Supplied.{supplied, answered}
 use Rattle.answers.specs.declared.supply.Supply.TheVariants.{Enough, Short}

@@ -5,7 +5,7 @@
 --
 --   ShownPinned    the statement: of a list, a shuffle, a sample and the rolls behind an order; of one batch; of the words behind rolls; and
 --                  of the batch that number 10 names
-use Rattle.std.specs.Prelude.{◌≡◌, List, [], ◌∷◌, ℕ}
+use Rattle.std.specs.Prelude.{◌≡◌, [], ◌∷◌, ℕ}
 use Rattle.rules.specs.Run.{short}
 use Rattle.answers.specs.Outcome.{refused, no_word, shown, shown_batch, shown_behind}
 

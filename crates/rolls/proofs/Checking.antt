@@ -18,7 +18,6 @@ use lib.ListN.{length}
 use borrow.Author.Tests.{ltb-false, le-ltb, lt-ltb}
 use Rattle.rules.specs.Limits.{max_batch}
 use Rattle.rules.specs.Rolls.{product, holds_zero}
-use Rattle.rules.specs.Run.{Taken}
 use Rattle.rules.specs.Width.{w64}
 use Rattle.rules.proofs.Facts.{clash, or_left, or_right}
 use Rattle.rules.proofs.Products.{product_pos}

@@ -5,15 +5,15 @@
 --   one_not_found      number 10, where the search finds no word
 --   found_within       a word that it finds is one of the list
 --   one_found          the rolls in front of zeros, as the caller sees them, where it finds one
-use mathlib.Core.Path.{◌≡◌, sym, ap, ap₂, ◌∙◌}
+use mathlib.Core.Path.{◌≡◌, sym, ap, ◌∙◌}
 use mathlib.Core.List.{List, [], ◌∷◌, ◌++◌, append-nil}
-use Prim.Native.Nat.{ℕ, zero, suc, ◌+◌, ◌-◌, ◌^◌, ◌<◌, ◌≤◌}
+use Prim.Native.Nat.{ℕ, zero, suc, ◌+◌, ◌-◌, ◌<◌, ◌≤◌}
 use native.Mathlib.Nat.{suc-sub-suc, sub-zero}
 use native.Mathlib.Omega.{arith}
 use lib.ListN.{length, drop, replicate}
 use Rattle.rules.specs.Limits.{max_batch}
 use Rattle.rules.specs.Rolls.{rolls, accepted}
-use Rattle.rules.specs.Run.{Taken, found, missing, find, Run, ran, suffices, run_from, run, trace, rolls_of, next, rejected}
+use Rattle.rules.specs.Run.{Taken, found, find, Run, ran, suffices, run_from, run, trace, rolls_of, next, rejected}
 use Rattle.rules.specs.Width.{Width}
 use Rattle.rules.proofs.Finding.{find_within}
 use Rattle.rules.proofs.Rolls.{length-rolls}

@@ -3,7 +3,7 @@
 --   passes L b w           the test of a word by the low half of b * w, with b the product
 --   searched start found   a search's answer: the word, its place, and how many words from the start were rejected
 --   checked bs outcome     the answer of a look at a batch's bounds: the number of their refusal, or their product, where 2^64 wraps to 0
-use Rattle.std.specs.Prelude.{Bool, List, [], ℕ, ◌-◌, ◌*◌, ◌%◌, ◌^◌, leb}
+use Rattle.std.specs.Prelude.{Bool, List, ℕ, ◌-◌, ◌*◌, ◌%◌, ◌^◌, leb}
 use Rattle.rules.specs.Rolls.{product, threshold}
 use Rattle.rules.specs.Run.{Found, found, missing}
 use Rattle.answers.specs.Outcome.{Outcome, refused, done}

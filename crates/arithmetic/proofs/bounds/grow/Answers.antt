@@ -1,5 +1,5 @@
 -- `arithmetic::bounds::grow` meets its contract, case by case of what is held so far. Assumes nothing.
-use Rattle.std.proofs.Common.{◌*◌, ◌^◌, ◌<◌, sym, ap, ◌∙◌, arith, rules}
+use Rattle.std.proofs.Common.{◌*◌, ◌^◌, ◌<◌, sym, ap, ◌∙◌, arith}
 use lib.Arith.{lt_of_le-ne}
 use Rattle.arithmetic.specs.Products.{grown}
 use Rattle.arithmetic.specs.declared.bounds.Product.{Product}

@@ -1,8 +1,7 @@
 -- `arithmetic::bounds::has_zero` meets its contract. The loop's invariant: what is left of the list has a 0 exactly where the whole
 -- has. The measure is what is left. Assumes nothing.
-use Rattle.std.proofs.Common.{◌≡◌, ◌-◌, ◌≤◌, length, drop, sym, ◌∙◌, rules}
+use Rattle.std.proofs.Common.{◌≡◌, ◌-◌, ◌≤◌, length, drop}
 use Rattle.rules.specs.Rolls.{holds_zero}
-use Rattle.rules.proofs.Products.{zero_here, zero-later, zero_none}
 use Rattle.arithmetic.proofs.bounds.has_zero.Given as goal
 
 abbrev pub invariant-loop-i : goal.invariant-loop-i

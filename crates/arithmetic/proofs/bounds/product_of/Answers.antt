@@ -1,6 +1,6 @@
 -- `arithmetic::bounds::product_of` meets its contract. The loop's invariant: the product of the bounds passed is held against 2^64. The
 -- measure is what is left of the list. Assumes nothing.
-use Rattle.std.proofs.Common.{◌≡◌, ℕ, ◌-◌, ◌≤◌, List, length, get_or, take, sym, refl, ap, ◌∙◌, take_all, rules}
+use Rattle.std.proofs.Common.{ℕ, List, get_or, take, sym, refl, ap, ◌∙◌, take_all, rules}
 use Rattle.rules.specs.Rolls.{product}
 use Rattle.arithmetic.specs.Products.{against, grown}
 use Rattle.arithmetic.specs.declared.bounds.Product.{Product}

@@ -1,7 +1,6 @@
 -- `arithmetic::bounds::product_of_two` meets its contract: the halves tell where the product lies. Assumes nothing.
-use Rattle.std.proofs.Common.{◌*◌, ⊎_elim, rules, eqb-true}
+use Rattle.std.proofs.Common.{◌*◌, ⊎_elim}
 use Rattle.arithmetic.proofs.Limits.{is_below, is_whole, is_above}
-use borrow.Author.Tests.{eqb-false}
 use Rattle.arithmetic.proofs.bounds.product_of_two.Goals as goal
 
 pub returns-then-high-eq0 : goal.returns-then-high-eq0

@@ -1,6 +1,6 @@
 -- `arithmetic::bounds::threshold_of` meets its contract: zero less b, taken with wrap, is 2^64 less b, which leaves the same remainder
 -- as 2^64; and 2^64 leaves none by itself. Assumes nothing.
-use Rattle.std.proofs.Common.{◌≡◌, ℕ, ◌-◌, ◌%◌, ◌^◌, sym, ap, ◌∙◌, arith, rules}
+use Rattle.std.proofs.Common.{◌≡◌, ℕ, ◌-◌, ◌%◌, ◌^◌, sym, ap, ◌∙◌, arith}
 use Rattle.rules.specs.Rolls.{threshold}
 use Rattle.rules.proofs.Rolls.{threshold_wraps, threshold_whole}
 use Rattle.arithmetic.proofs.Limits.{unwrap_whole, unwrap_some}

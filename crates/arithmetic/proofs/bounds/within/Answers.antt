@@ -1,6 +1,6 @@
 -- `arithmetic::bounds::within` meets its contract: with high half 0 the low half is p * b, and otherwise p * b is above every word.
 -- Assumes nothing.
-use Rattle.std.proofs.Common.{◌*◌, rules}
+use Rattle.std.proofs.Common.{◌*◌}
 use Rattle.arithmetic.proofs.Limits.{beyond_words, within_word}
 use Rattle.arithmetic.proofs.bounds.within.Goals as goal
 

@@ -1,5 +1,5 @@
 -- `arithmetic::wide::low` meets its contract: the lower halves of the columns. Assumes nothing.
-use Rattle.std.proofs.Common.{arith, rules}
+use Rattle.std.proofs.Common.{arith}
 use Rattle.arithmetic.proofs.Halves.{four_halves, low_columns}
 use Rattle.arithmetic.proofs.wide.low.Goals as goal
 

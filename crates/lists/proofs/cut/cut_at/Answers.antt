@@ -2,13 +2,13 @@
 -- ends with the list, at sixteen bounds, or where the product passes the limit. The measure is what is left of the list.
 -- Assumes nothing.
 use native.Mathlib.Omega.{arith}
-use borrow.Author.Tests.{leb-true, not-true, not-false}
+use borrow.Author.Tests.{leb-true}
 use mathlib.Core.Path.{◌∙◌, sym}
-use Prim.Native.Nat.{◌-◌, ◌*◌, ◌^◌}
+use Prim.Native.Nat.{◌*◌, ◌^◌}
 use borrow.Author.Rules.{rules}
-use lib.ListN.{length, get_or}
+use lib.ListN.{get_or}
 use Rattle.rules.specs.Width.{w64}
-use Rattle.lists.proofs.Cutting.{Cutting, cut-first, cut-turn, cut_list_ends, cut_full, cut-passes, cut_found}
+use Rattle.lists.proofs.Cutting.{cut-first, cut-turn, cut_list_ends, cut_full, cut-passes, cut_found}
 use Rattle.lists.proofs.cut.cut_at.Goals as goal
 
 pub loop-end-init : goal.loop-end-init

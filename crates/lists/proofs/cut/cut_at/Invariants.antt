@@ -1,14 +1,9 @@
 -- `lists::cut::cut_at` meets its contract. The loop's invariant: the bounds from `at` up to `end` have joined one batch (Cutting); it
 -- ends with the list, at sixteen bounds, or where the product passes the limit. The measure is what is left of the list.
 -- Assumes nothing.
-use native.Mathlib.Omega.{arith}
-use borrow.Author.Tests.{leb-true, not-true, not-false}
-use mathlib.Core.Path.{◌∙◌, sym}
-use Prim.Native.Nat.{◌-◌, ◌*◌, ◌^◌}
-use borrow.Author.Rules.{rules}
-use lib.ListN.{length, get_or}
-use Rattle.rules.specs.Width.{w64}
-use Rattle.lists.proofs.Cutting.{Cutting, cut-first, cut-turn, cut_list_ends, cut_full, cut-passes, cut_found}
+use Prim.Native.Nat.{◌-◌, ◌^◌}
+use lib.ListN.{length}
+use Rattle.lists.proofs.Cutting.{Cutting}
 use Rattle.lists.proofs.cut.cut_at.Given as goal
 
 abbrev pub invariant-loop-end : goal.invariant-loop-end

@@ -42,12 +42,12 @@ supply_list-requires c = (c.if-words-start.false, sym c.has_zero.ensures ∙ c.i
 
 pub write_list-requires : goal.write_list-requires
 write_list-requires c = let args = c.args in (
-      c.if-words-start.false,
-      sym c.has_zero.ensures ∙ c.if-has_zero.false,
-      c.if-rolls-bounds.false,
-      (supplied_enough args.start (run 64 (cut (2 ^ 56) args.bounds.now) args.words.now args.start) _ _
-          (sym c.supply_list.ensures ∙ c.in-Enough.is)).enough,
-    )
+  c.if-words-start.false,
+  sym c.has_zero.ensures ∙ c.if-has_zero.false,
+  c.if-rolls-bounds.false,
+  (supplied_enough args.start (run 64 (cut (2 ^ 56) args.bounds.now) args.words.now args.start) _ _
+      (sym c.supply_list.ensures ∙ c.in-Enough.is)).enough,
+)
 
 pub returns-in-Enough : goal.returns-in-Enough
 returns-in-Enough c = let args = c.args in

@@ -2,13 +2,11 @@
 -- the run suffices (Listed); so no word is missing. The measure is the bounds that are left. Assumes nothing.
 use lib.ListN.{length-take, length-drop}
 use mathlib.Core.Path.{◌∙◌, sym}
-use Prim.Native.Nat.{◌-◌}
 use native.Mathlib.Omega.{arith}
 use borrow.Author.Rules.{rules}
-use lib.ListN.{length}
 use Rattle.rules.specs.Width.{w64}
 use Rattle.lists.proofs.Listing.{cut_place}
-use Rattle.lists.proofs.Filling.{Listed, list_none, list_never, list_turn, list_done}
+use Rattle.lists.proofs.Filling.{list_none, list_never, list_turn, list_done}
 use Rattle.lists.proofs.list.write_list.Goals as goal
 
 pub loop-at-init : goal.loop-at-init

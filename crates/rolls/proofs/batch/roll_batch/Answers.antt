@@ -3,7 +3,6 @@ use mathlib.Core.Path.{◌∙◌, sym}
 use Rattle.rules.specs.Width.{w64}
 use Rattle.rolls.proofs.Checking.{told-refused, told_held}
 use Rattle.rolls.proofs.OneBatch.{one_refused}
-use borrow.Author.Rules.{rules}
 use Rattle.rolls.proofs.batch.roll_batch.Goals as goal
 
 pub draw_batch-requires : goal.draw_batch-requires

@@ -1,11 +1,9 @@
 -- `rolls::search::find_word` meets its contract. The loop's invariant: t is the threshold, the search of what is left finds what the
 -- whole search finds, and the words passed are rejected. The measure is the words that are left. Assumes nothing.
-use mathlib.Core.Path.{◌≡◌, ◌∙◌, sym, ap}
-use Prim.Native.Nat.{ℕ, ◌-◌, ◌≤◌, ◌<◌}
-use lib.ListN.{length, drop, get_or}
+use mathlib.Core.Path.{◌∙◌, sym, ap}
+use Prim.Native.Nat.{ℕ, ◌≤◌, ◌<◌}
+use lib.ListN.{length, get_or}
 use borrow.Author.Tests.{le-leb, lt-leb}
-use Rattle.rules.specs.Rolls.{threshold}
-use Rattle.rules.specs.Run.{find}
 use Rattle.rules.proofs.Finding.{find_end, find_hit, find_miss}
 use Rattle.arithmetic.specs.Products.{unwrap}
 use Rattle.rolls.specs.Inner.{passes, searched}

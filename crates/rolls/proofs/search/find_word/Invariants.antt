@@ -1,17 +1,12 @@
 -- `rolls::search::find_word` meets its contract. The loop's invariant: t is the threshold, the search of what is left finds what the
 -- whole search finds, and the words passed are rejected. The measure is the words that are left. Assumes nothing.
-use mathlib.Core.Path.{◌≡◌, ◌∙◌, sym, ap}
-use Prim.Native.Nat.{ℕ, ◌-◌, ◌≤◌, ◌<◌}
-use lib.ListN.{length, drop, get_or}
-use borrow.Author.Tests.{le-leb, lt-leb}
+use mathlib.Core.Path.{◌≡◌}
+use Prim.Native.Nat.{◌-◌, ◌≤◌}
+use lib.ListN.{length, drop}
 use Rattle.rules.specs.Rolls.{threshold}
 use Rattle.rules.specs.Run.{find}
-use Rattle.rules.proofs.Finding.{find_end, find_hit, find_miss}
 use Rattle.arithmetic.specs.Products.{unwrap}
-use Rattle.rolls.specs.Inner.{passes, searched}
-use Rattle.rolls.specs.declared.search.Search.TheVariants.{Hit}
-use Rattle.rolls.proofs.Searching.{passes_tested}
-use borrow.Author.Rules.{rules}
+use Rattle.rolls.specs.Inner.{passes}
 use Rattle.rolls.proofs.search.find_word.Given as goal
 
 abbrev pub invariant-loop-at : goal.invariant-loop-at

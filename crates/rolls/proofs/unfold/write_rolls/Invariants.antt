@@ -1,9 +1,8 @@
 -- `rolls::unfold::write_rolls` meets its contract. The loop's invariant: the rolls of the first i bounds are written, and r is what
 -- they left (Unfolding). The measure is the bounds that are left. Assumes nothing.
 use Prim.Native.Nat.{◌-◌}
-use borrow.Author.Rules.{rules}
 use lib.ListN.{length}
-use Rattle.rolls.proofs.Unfolding.{Unfolding, unfold_turn, unfold_done}
+use Rattle.rolls.proofs.Unfolding.{Unfolding}
 use Rattle.rolls.proofs.unfold.write_rolls.Given as goal
 
 abbrev pub invariant-loop-i : goal.invariant-loop-i
