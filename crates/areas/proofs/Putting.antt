@@ -3,7 +3,7 @@
 --   number_put, word_put                      a number put byte by byte; a word put by its halves
 --   Laid, laid_none, laid_turn, laid_whole    the loop that puts the numbers of an area, of any size
 use mathlib.Core.Path.{◌≡◌, refl, sym, ap, ◌∙◌}
-use mathlib.Core.List.{List, [], ◌++◌, append_assoc, append-nil}
+use mathlib.Core.List.{List, ◌++◌, append_assoc, append-nil}
 use Prim.Native.Nat.{ℕ, zero, suc, ◌+◌, ◌*◌, ◌/◌, ◌%◌, ◌^◌, ◌<◌, ◌≤◌}
 use native.Mathlib.Nat.{zero-lt-suc, pow-suc, one-le-pow, mul-le-mul_left}
 use native.Mathlib.Numerals.{add-one}
