@@ -4,7 +4,7 @@
 --   shuffle W words start xs           what comes of it: the records xs in a drawn order
 --   seen_shuffle W words start xs       what its caller sees: the answer, and the lent list of records as it is left; the contract of the
 --                                      code is the equation with this
-use Rattle.std.specs.Prelude.{List, [], ◌∷◌, ℕ, length}
+use Rattle.std.specs.Prelude.{List, ◌∷◌, ℕ, length}
 use Rattle.rules.specs.Limits.{max_records}
 use Rattle.rules.specs.Shuffle.{shuffle_with, shuffle_plan}
 use Rattle.rules.specs.Width.{Width}
