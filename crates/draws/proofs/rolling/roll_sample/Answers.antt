@@ -18,7 +18,6 @@ use Rattle.answers.proofs.Deciding.{supplied_enough}
 use Rattle.draws.specs.Sample.{sample_plan}
 use Rattle.draws.proofs.Rolled.{reservoir-short, shuffle-short, used, enough, rolled_kept, rolled-left}
 use Rattle.draws.proofs.Sampling.{lent_count, back_fits, back_front, back_count, bounds_no_zero}
-use borrow.Author.Rules.{rules}
 use Rattle.draws.proofs.rolling.roll_sample.Goals as goal
 
 -- the bounds of the reservoir, laid out in the first n - k places of an array of zeros, which come back as `last`

@@ -69,9 +69,12 @@ pub fill_slots-requires : goal.fill_slots-requires
 fill_slots-requires c = let a = c.args in
     let n = length a.records.now in
     let enough = sym c.roll_sample.ensures.supply ∙ c.in-Enough.is in
-    let word = λ (i : ℕ) (h : i < length a.words.now). (c.type_inv.words i).fits in
-    (c.requires.3, c.requires.4, rw (rolls 16384 a.words.now a.start n a.k c.requires.1 c.requires.2 c.requires.3 (omega (arith, c.requires.1)) c.roll_sample.new.rolls c.roll_sample.auto.rolls _ _ enough c.roll_sample.ensures.rolls)
-        (truth _ (rolled_range a.words.now a.start n a.k _ _ enough c.requires.2 c.requires.3 c.requires.1 word)))
+    let word = λ (i : ℕ) (h : i < length a.words.now). (c.type_inv.words i).fits in (
+      c.requires.3,
+      c.requires.4,
+      rw (rolls 16384 a.words.now a.start n a.k c.requires.1 c.requires.2 c.requires.3 (omega (arith, c.requires.1)) c.roll_sample.new.rolls c.roll_sample.auto.rolls _ _ enough c.roll_sample.ensures.rolls)
+          (truth _ (rolled_range a.words.now a.start n a.k _ _ enough c.requires.2 c.requires.3 c.requires.1 word)),
+    )
 
 pub returns-in-Enough : goal.returns-in-Enough
 returns-in-Enough c = let a = c.args in
@@ -80,19 +83,19 @@ returns-in-Enough c = let a = c.args in
     let rs = rolls_of 64 (sample_plan w64 n a.k) (trace ran) in
     let enough = sym c.roll_sample.ensures.supply ∙ c.in-Enough.is in
     let seen = done-seen _ _ a.start ran _ _ a.slots.now _ _
-        (sample-done w64 a.words.now a.start a.records.now a.k (length a.slots.now)
-        (in_count 0 16384 n (search rules) c.requires.1) (in_count 1 n a.k c.requires.2 c.requires.3)
-        (le-ltb _ _ c.requires.4) c.requires.0 _ _ enough) enough c.done_answer.ensures
-        (c.fill_slots.ensures ∙ ap (λ (l : List ℕ). sample_with a.k l a.records.now ++ drop a.k a.slots.now) (rolls 16384 a.words.now a.start n a.k c.requires.1 c.requires.2 c.requires.3 (omega (arith, c.requires.1)) c.roll_sample.new.rolls c.roll_sample.auto.rolls _ _ enough c.roll_sample.ensures.rolls)
-        ∙ ap (λ (m : ℕ). sample_with a.k rs a.records.now ++ drop m a.slots.now) (sym (length_drawn a.k rs a.records.now c.requires.3))) in
+    (sample-done w64 a.words.now a.start a.records.now a.k (length a.slots.now)
+    (in_count 0 16384 n (search rules) c.requires.1) (in_count 1 n a.k c.requires.2 c.requires.3)
+    (le-ltb _ _ c.requires.4) c.requires.0 _ _ enough) enough c.done_answer.ensures
+    (c.fill_slots.ensures ∙ ap (λ (l : List ℕ). sample_with a.k l a.records.now ++ drop a.k a.slots.now) (rolls 16384 a.words.now a.start n a.k c.requires.1 c.requires.2 c.requires.3 (omega (arith, c.requires.1)) c.roll_sample.new.rolls c.roll_sample.auto.rolls _ _ enough c.roll_sample.ensures.rolls)
+    ∙ ap (λ (m : ℕ). sample_with a.k rs a.records.now ++ drop m a.slots.now) (sym (length_drawn a.k rs a.records.now c.requires.3))) in
     record { answer = seen.0; slots = seen.1 }
 
 pub returns-in-Short : goal.returns-in-Short
 returns-in-Short c = let a = c.args in
     let n = length a.records.now in
     let seen = refused-seen _ 10 _ _ a.slots.now _
-        (sample-short w64 a.words.now a.start a.records.now a.k (length a.slots.now)
-        (in_count 0 16384 n (search rules) c.requires.1) (in_count 1 n a.k c.requires.2 c.requires.3)
-        (le-ltb _ _ c.requires.4) c.requires.0 _ (sym c.roll_sample.ensures.supply ∙ c.in-Short.is))
-        c.refused_answer.ensures in
+    (sample-short w64 a.words.now a.start a.records.now a.k (length a.slots.now)
+    (in_count 0 16384 n (search rules) c.requires.1) (in_count 1 n a.k c.requires.2 c.requires.3)
+    (le-ltb _ _ c.requires.4) c.requires.0 _ (sym c.roll_sample.ensures.supply ∙ c.in-Short.is))
+    c.refused_answer.ensures in
     record { answer = seen.0; slots = seen.1 }

@@ -3,7 +3,6 @@
 use native.Mathlib.Omega.{arith}
 use lib.ListN.{length}
 use Rattle.draws.proofs.Sampling.{later_fits, later-count, front-count, front_range, slots_filled}
-use borrow.Author.Rules.{rules}
 use Rattle.draws.proofs.sample.fill_slots.Goals as goal
 
 pub slice_bounds-take_later-end : goal.slice_bounds-take_later-end

@@ -1,11 +1,8 @@
 -- `draws::sample::shuffle_slots` meets its contract. The loop's invariant: the first i rolls are done, and the others bring the slots as they
 -- stand to what all of them give (Turned). The measure is what is left of the rolls. Assumes nothing.
-use Prim.Native.Nat.{◌+◌, ◌-◌, ◌<◌}
-use native.Mathlib.Omega.{arith}
-use lib.ListN.{length, get_or}
-use Rattle.rules.proofs.Range.{range_true}
-use Rattle.rules.proofs.Turns.{Turned, turned_none, turned_turn, turned_range, turned_done}
-use borrow.Author.Rules.{rules}
+use Prim.Native.Nat.{◌-◌}
+use lib.ListN.{length}
+use Rattle.rules.proofs.Turns.{Turned}
 use Rattle.draws.proofs.sample.shuffle_slots.Given as goal
 
 abbrev pub invariant-loop-i : goal.invariant-loop-i

@@ -1,11 +1,8 @@
 -- `draws::sample::take_first` meets its contract. The loop's invariant: the first i records are written (Written). The measure is what
 -- is left of k. Assumes nothing.
-use mathlib.Core.Path.{sym}
-use Prim.Native.Nat.{◌-◌, ◌<◌}
-use borrow.Author.Rules.{rules}
+use Prim.Native.Nat.{◌-◌}
 use lib.ListN.{take}
-use lib.Seq.{length-take-le, get_or-take}
-use Rattle.rules.proofs.Writing.{Written, written_none, written-turn, written_whole}
+use Rattle.rules.proofs.Writing.{Written}
 use Rattle.draws.proofs.sample.take_first.Given as goal
 
 abbrev pub invariant-loop-i : goal.invariant-loop-i

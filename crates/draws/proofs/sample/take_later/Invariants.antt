@@ -1,11 +1,9 @@
 -- `draws::sample::take_later` meets its contract. The loop's invariant: the first i of the later records have had their turn, and the
 -- others make the slots what all of them make (Later); a record takes a slot or passes. The measure is what is left of the rolls.
 -- Assumes nothing.
-use Prim.Native.Nat.{◌-◌, ◌<◌}
-use mathlib.Core.Logic.{⊎_elim}
-use borrow.Author.Rules.{rules}
+use Prim.Native.Nat.{◌-◌}
 use lib.ListN.{length}
-use Rattle.draws.proofs.Sampling.{Later, later_none, later_taken, later_passed, later-done}
+use Rattle.draws.proofs.Sampling.{Later}
 use Rattle.draws.proofs.sample.take_later.Given as goal
 
 abbrev pub invariant-loop-i : goal.invariant-loop-i
