@@ -11,7 +11,6 @@ use lib.Dec.{leb}
 use lib.ListN.{length}
 use borrow.Author.Tests.{leb-true, leb-false}
 use Rattle.areas.specs.Area.{little, entries}
-use Rattle.areas.specs.Pinned.{Area}
 use Rattle.areas.proofs.Pinned.{area_pinned}
 use Rattle.sheet.specs.Sheet.{Numbers, numbers, words_end, records_end, Sound}
 use Rattle.sheet.specs.Pinned.{Header, SheetPinned}

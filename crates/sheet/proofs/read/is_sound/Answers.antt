@@ -1,16 +1,11 @@
 -- `sheet::read::is_sound` meets its contract. Each test that fails contradicts the sentence that says what is sound; where all pass, what
 -- is left is that the areas share no byte. Assumes nothing.
 use mathlib.Core.Path.{sym}
-use mathlib.Core.List.{List}
-use Prim.Native.Nat.{ℕ, ◌+◌, ◌*◌}
+use Prim.Native.Nat.{◌+◌, ◌*◌}
 use native.Mathlib.Omega.{arith}
 use Rattle.sheet.proofs.Soundness.{sound_false, sound_rest}
 use borrow.Author.Rules.{rules}
 use Rattle.sheet.proofs.read.is_sound.Goals as goal
-
--- the sheet, from after its numbers were read
-abbrev sheet : tie.After-read-number4 → List ℕ
-sheet d = d.args.sheet.now
 
 pub returns-then-length-lt-HEADER : goal.returns-then-length-lt-HEADER
 returns-then-length-lt-HEADER c = sym (sound_false c.args.sheet.now (λ v. omega arith))
@@ -19,21 +14,20 @@ pub returns-then-length-gt-MAX_SHEET : goal.returns-then-length-gt-MAX_SHEET
 returns-then-length-gt-MAX_SHEET c = sym (sound_false c.args.sheet.now (λ v. omega arith))
 
 pub returns-then-words_at-lt-HEADER : goal.returns-then-words_at-lt-HEADER
-returns-then-words_at-lt-HEADER c = sym (sound_false (sheet c) (λ v. omega arith))
+returns-then-words_at-lt-HEADER c = sym (sound_false c.args.sheet.now (λ v. omega arith))
 
 pub returns-then-records_at-lt-HEADER : goal.returns-then-records_at-lt-HEADER
-returns-then-records_at-lt-HEADER c = sym (sound_false (sheet c) (λ v. omega arith))
+returns-then-records_at-lt-HEADER c = sym (sound_false c.args.sheet.now (λ v. omega arith))
 
 pub returns-then-length-words_end : goal.returns-then-length-words_end
-returns-then-length-words_end c = sym (sound_false (sheet c) (λ v. omega arith))
+returns-then-length-words_end c = sym (sound_false c.args.sheet.now (λ v. omega arith))
 
 pub returns-then-length-records_end : goal.returns-then-length-records_end
-returns-then-length-records_end c = sym (sound_false (sheet c) (λ v. omega arith))
+returns-then-length-records_end c = sym (sound_false c.args.sheet.now (λ v. omega arith))
 
 pub returns : goal.returns
-returns c = 
-    let after-read-number4 = c in
-    let at = after-read-number4.read_number-words_at.result in
-    let from = after-read-number4.read_number-records_at.result in
-    sound_rest (sheet after-read-number4) at (at + 8 * after-read-number4.read_number.result) from (from + 4 * after-read-number4.read_number-2.result) _ c.share_byte.ensures
+returns c =
+    let at = c.read_number-words_at.result in
+    let from = c.read_number-records_at.result in
+    sound_rest c.args.sheet.now at (at + 8 * c.read_number.result) from (from + 4 * c.read_number-2.result) _ c.share_byte.ensures
     (search rules) (search rules) (search rules) (search rules) (search rules)

@@ -1,5 +1,4 @@
 -- `sheet::read::read_numbers` meets its contract. Field by field, the numbers are as they were read. Assumes nothing.
-use borrow.Author.Rules.{rules}
 use Rattle.sheet.proofs.read.read_numbers.Goals as goal
 
 pub returns : goal.returns

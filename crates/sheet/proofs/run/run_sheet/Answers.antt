@@ -3,49 +3,42 @@
 use Prim.Native.Nat.{ℕ, ◌≤◌}
 use native.Mathlib.Omega.{arith}
 use lib.ListN.{length, replicate, length-replicate}
-use Rattle.sheet.proofs.Drawing.{Held, held, drawn_unread, words_fit, words_count, records_fit, records_count, drawn_refused, drawn_done}
+use Rattle.sheet.proofs.Drawing.{held, drawn_unread, words_fit, words_count, records_fit, records_count, drawn_refused, drawn_done}
 use borrow.Author.Rules.{rules}
 use Rattle.sheet.proofs.run.run_sheet.Goals as goal
 
 zeros : (n : ℕ) → n ≤ length (replicate {A = ℕ} n 0)
 zeros n = rw (length-replicate {A = ℕ} n 0) (omega arith)
 
-abbrev begin : tie.After-read-sheet → tie.Start
-begin e = e
-
--- where the sheet was read, and not refused
-read : (e : tie.Else1) → let made = e in let a = (begin made).args in
-    Held a.sheet.now (replicate 8188 0) (replicate 16377 0) made.read_sheet-read.result made.read_sheet-read.new.1.0 made.read_sheet-read.new.1.1.0
-read e = held _ _ _ _ _ _ (zeros 8188) (zeros 16377) e.read_sheet-read.ensures (search rules)
-
 pub returns-then-read-ne0 : goal.returns-then-read-ne0
-returns-then-read-ne0 c = 
-    let made = c in
-    let a = made.args in
-    drawn_unread a.sheet.now (replicate 8188 0) (replicate 16377 0) _ _ _ (zeros 8188) (zeros 16377) made.read_sheet-read.ensures (length a.slots-1.now) a.slots-1.now (search rules)
+returns-then-read-ne0 c = let r = c.read_sheet-read.ensures in
+    let a = c.args in
+    let seen = drawn_unread a.sheet.now (replicate 8188 0) (replicate 16377 0) c.read_sheet-read.result c.read_sheet-read.new.words c.read_sheet-read.new.records (zeros 8188) (zeros 16377) (r.answer, (r.words, r.records))
+    (length a.slots.now) a.slots.now (search rules) in
+    record { answer = seen.0; slots = seen.1 }
 
 pub slice_bounds-words-end : goal.slice_bounds-words-end
-slice_bounds-words-end c = words_fit _ _ _ _ _ _ (read c)
+slice_bounds-words-end c = let r = c.read_sheet-read.ensures in words_fit _ _ _ _ _ _ (held c.args.sheet.now (replicate 8188 0) (replicate 16377 0) c.read_sheet-read.result c.read_sheet-read.new.words c.read_sheet-read.new.records (zeros 8188) (zeros 16377) (r.answer, (r.words, r.records)) (search rules))
 
 pub slice_bounds-sample_records-end : goal.slice_bounds-sample_records-end
-slice_bounds-sample_records-end c = words_count _ _ _ _ _ _ (read c)
+slice_bounds-sample_records-end c = let r = c.read_sheet-read.ensures in words_count _ _ _ _ _ _ (held c.args.sheet.now (replicate 8188 0) (replicate 16377 0) c.read_sheet-read.result c.read_sheet-read.new.words c.read_sheet-read.new.records (zeros 8188) (zeros 16377) (r.answer, (r.words, r.records)) (search rules))
 
 pub slice_bounds-records-end : goal.slice_bounds-records-end
-slice_bounds-records-end c = records_fit _ _ _ _ _ _ (read c)
+slice_bounds-records-end c = let r = c.read_sheet-read.ensures in records_fit _ _ _ _ _ _ (held c.args.sheet.now (replicate 8188 0) (replicate 16377 0) c.read_sheet-read.result c.read_sheet-read.new.words c.read_sheet-read.new.records (zeros 8188) (zeros 16377) (r.answer, (r.words, r.records)) (search rules))
 
 pub slice_bounds-sample_records-end-2 : goal.slice_bounds-sample_records-end-2
-slice_bounds-sample_records-end-2 c = records_count _ _ _ _ _ _ (read c)
+slice_bounds-sample_records-end-2 c = let r = c.read_sheet-read.ensures in records_count _ _ _ _ _ _ (held c.args.sheet.now (replicate 8188 0) (replicate 16377 0) c.read_sheet-read.result c.read_sheet-read.new.words c.read_sheet-read.new.records (zeros 8188) (zeros 16377) (r.answer, (r.words, r.records)) (search rules))
 
 pub returns-then-answer-ne0 : goal.returns-then-answer-ne0
-returns-then-answer-ne0 c = 
-    let after-sample-records = c in
-    let passed = after-sample-records in
-    let a = (begin passed).args in
-    drawn_refused _ _ _ _ _ _ (read passed) (length a.slots-1.now) a.slots-1.now _ _ after-sample-records.sample_records-answer.ensures _ (search rules) c.refused_drawn.ensures
+returns-then-answer-ne0 c = let r = c.read_sheet-read.ensures in
+    let t = c.sample_records-answer.ensures in
+    let a = c.args in
+    let seen = drawn_refused _ _ _ _ _ _ (held c.args.sheet.now (replicate 8188 0) (replicate 16377 0) c.read_sheet-read.result c.read_sheet-read.new.words c.read_sheet-read.new.records (zeros 8188) (zeros 16377) (r.answer, (r.words, r.records)) (search rules)) (length a.slots.now) a.slots.now c.sample_records-answer.new.slots c.sample_records-answer.result (t.answer, t.slots) _ (search rules) c.refused_drawn.ensures in
+    record { answer = seen.0; slots = seen.1 }
 
 pub returns : goal.returns
-returns c = 
-    let after-sample-records = c in
-    let passed = after-sample-records in
-    let a = (begin passed).args in
-    drawn_done _ _ _ _ _ _ (read passed) (length a.slots-1.now) a.slots-1.now _ _ after-sample-records.sample_records-answer.ensures (search rules)
+returns c = let r = c.read_sheet-read.ensures in
+    let t = c.sample_records-answer.ensures in
+    let a = c.args in
+    let seen = drawn_done _ _ _ _ _ _ (held c.args.sheet.now (replicate 8188 0) (replicate 16377 0) c.read_sheet-read.result c.read_sheet-read.new.words c.read_sheet-read.new.records (zeros 8188) (zeros 16377) (r.answer, (r.words, r.records)) (search rules)) (length a.slots.now) a.slots.now c.sample_records-answer.new.slots c.sample_records-answer.result (t.answer, t.slots) (search rules) in
+    record { answer = seen.0; slots = seen.1 }
