@@ -1,20 +1,20 @@
 -- What comes of an operation, for every operation alike: a refusal, or its values; and what the caller then sees.
 --
---   Outcome                              refused by a number, with the batch that got no word (0 for numbers other than 10); or done: the
---                                        values, and the trace, which is the word that each batch took and its place
---   Refusal                              a number, the batch that it names, and whether it applies
---   no n test                            the number n, which applies where the test holds
---   no_word ran                           number 10, which applies where the words ended before some batch had an accepted word
---   decide refusals outcome              the first refusal that applies; where none does, the outcome
---   outside low high n                   whether n is below low or above high
---   of_bounds W bs                        numbers 2, 4 and 5, of an operation on the bounds of one batch
---   of_words L plan words start           numbers 9 and 10, of an operation that takes words from the start on for the batches of a plan
---   from_run L plan words start reading   what comes of the run of a plan: its rolls by their reading, and its trace
---   shown start outcome                  the answer that the caller gets
---   shown_batch start outcome             the same, of one batch
---   shown_behind outcome                  the same, of the words behind rolls
---   left before outcome                  what a lent list then holds, which held before
---   seen start lent outcome              the answer, and beside it the lent list as it is left
+--   Outcome                                refused by a number, with the batch that got no word (0 for numbers other than 10); or done: the
+--                                          values, and the trace, which is the word that each batch took and its place
+--   Refusal                                a number, the batch that it names, and whether it applies
+--   no n test                              the number n, which applies where the test holds
+--   no_word ran                            number 10, which applies where the words ended before some batch had an accepted word
+--   decide refusals outcome                the first refusal that applies; where none does, the outcome
+--   outside low high n                     whether n is below low or above high
+--   of_bounds W bs                         numbers 2, 4 and 5, of an operation on the bounds of one batch
+--   of_words L plan words start            numbers 9 and 10, of an operation that takes words from the start on for the batches of a plan
+--   from_run L plan words start reading    what comes of the run of a plan: its rolls by their reading, and its trace
+--   shown start outcome                    the answer that the caller gets
+--   shown_batch start outcome              the same, of one batch
+--   shown_behind outcome                   the same, of the words behind rolls
+--   left before outcome                    what a lent list then holds, which held before
+--   seen start lent outcome                the answer, and beside it the lent list as it is left
 use Rattle.std.specs.Prelude.{Bool, true, false, ◌||◌, List, [], ◌∷◌, ◌++◌, ℕ, ◌-◌, ◌^◌, ltb, length, drop, get_or, replicate}
 use Rattle.rules.specs.Limits.{max_batch}
 use Rattle.rules.specs.Width.{Width}

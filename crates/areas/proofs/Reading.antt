@@ -1,8 +1,8 @@
 -- Numbers read from bytes, and those of an area. Assumes nothing.
 --
---   number_none, number_step  a number of no bytes; a number by its first byte and the rest of it
---   four_read, number_eight   a number by its bytes, and by its halves
---   length-entries            an area has as many numbers as its count
+--   number_none, number_step    a number of no bytes; a number by its first byte and the rest of it
+--   four_read, number_eight     a number by its bytes, and by its halves
+--   length-entries              an area has as many numbers as its count
 --   get_or-entries              the i-th number of an area
 use mathlib.Core.Path.{◌≡◌, refl, ap, ◌∙◌}
 use mathlib.Core.List.{List}

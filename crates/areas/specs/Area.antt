@@ -3,7 +3,7 @@
 --   little bs              the number whose bytes are bs, low byte first
 --   number size at s       the number of so many bytes at a place of the bytes s
 --   entries size c at s    the c numbers of an area, each of so many bytes, from a place on
---   bytes_of size n         the bytes of the number n, so many of them
+--   bytes_of size n        the bytes of the number n, so many of them
 --   area size xs           the bytes of the numbers xs, one number behind the other
 use Rattle.std.specs.Prelude.{List, [], ◌∷◌, ◌++◌, ℕ, zero, suc, ◌+◌, ◌*◌, ◌/◌, ◌%◌, take, drop}
 

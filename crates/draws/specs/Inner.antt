@@ -1,7 +1,7 @@
 -- What rolling a sample comes to, which its reading then makes records of. No contract of a public operation cites it.
 --
 --   rolled_sample W words start n k    the rolls of a sample of k from n records, one for each place from k on, then those of the final shuffle;
---                                     refused by 10 where a batch gets no word
+--                                      refused by 10 where a batch gets no word
 use Rattle.std.specs.Prelude.{List, [], ◌∷◌, ℕ}
 use Rattle.rules.specs.Run.{run}
 use Rattle.rules.specs.Width.{Width}

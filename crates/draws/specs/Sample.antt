@@ -1,11 +1,11 @@
 -- The sample: its refusals in the order of document 01, its plan, its reading, and what its caller sees.
 --
---   sample_plan W n k                        the batches of a sample of k from n records
---   sample_refusals W words start n k room   the numbers that it can meet, each with its test
---   sampled W words start xs k              the sample, where nothing is refused
---   sample W words start xs k room          what comes of it: k of the records xs, with room for so many
---   seen_sample W words start xs k lent      what its caller sees: the answer, and the lent list of slots as it is left; the contract of
---                                           the code is the equation with this
+--   sample_plan W n k                         the batches of a sample of k from n records
+--   sample_refusals W words start n k room    the numbers that it can meet, each with its test
+--   sampled W words start xs k                the sample, where nothing is refused
+--   sample W words start xs k room            what comes of it: k of the records xs, with room for so many
+--   seen_sample W words start xs k lent       what its caller sees: the answer, and the lent list of slots as it is left; the contract of
+--                                             the code is the equation with this
 use Rattle.std.specs.Prelude.{List, ◌∷◌, ◌++◌, ℕ, ◌+◌, ◌-◌, ltb, length}
 use Rattle.rules.specs.Cut.{cut}
 use Rattle.rules.specs.Limits.{max_records}

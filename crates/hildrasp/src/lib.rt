@@ -22,10 +22,10 @@ ghost use Rattle.promises.specs.List as list;
 ghost use Rattle.promises.specs.Shuffle as shuffle;
 ghost use Rattle.promises.specs.Sample as sample;
 ghost use Rattle.promises.specs.Behind as behind;
-ghost use Rattle.promises.specs.Order as orderBehind;
-ghost use Rattle.promises.specs.Sheet as sheetRun;
-ghost use Rattle.promises.specs.Read as sheetRead;
-ghost use Rattle.promises.specs.Write as sheetWritten;
+ghost use Rattle.promises.specs.Order as order_behind;
+ghost use Rattle.promises.specs.Sheet as sheet_run;
+ghost use Rattle.promises.specs.Read as sheet_read;
+ghost use Rattle.promises.specs.Write as sheet_written;
 ghost use Rattle.promises.specs.Why as reason;
 
 use answers::answer::{Answer, Batch, Behind};
@@ -91,7 +91,7 @@ pub extern "C" fn hildrasp_words_behind(bounds: &[u64], rolls: &[u64]) -> Behind
 pub extern "C" fn hildrasp_rolls_behind(order: &[u32], rolls: &mut [u64]) -> Answer
     ensures answer { result ≡ (seen_order order.now rolls.old).0 }
     ensures rolls { rolls.new ≡ (seen_order order.now rolls.old).1 }
-    ensures demands { orderBehind.Refuses order.now rolls.old (result, rolls.new) × orderBehind.Gives order.now rolls.old (result, rolls.new) }
+    ensures demands { order_behind.Refuses order.now rolls.old (result, rolls.new) × order_behind.Gives order.now rolls.old (result, rolls.new) }
 {
     orders::order::rolls_behind(order, rolls)
 }
@@ -100,7 +100,7 @@ pub extern "C" fn hildrasp_rolls_behind(order: &[u32], rolls: &mut [u64]) -> Ans
 pub extern "C" fn hildrasp_run_sheet(sheet: &[u8], slots: &mut [u32]) -> Drawn
     ensures answer { result ≡ (seen_sheet w64 sheet.now slots.old).0 }
     ensures slots { slots.new ≡ (seen_sheet w64 sheet.now slots.old).1 }
-    ensures demands { sheetRun.Refuses w64 sheet.now slots.old (result, slots.new) × sheetRun.Gives w64 sheet.now slots.old (result, slots.new) }
+    ensures demands { sheet_run.Refuses w64 sheet.now slots.old (result, slots.new) × sheet_run.Gives w64 sheet.now slots.old (result, slots.new) }
 {
     sheet::run::run_sheet(sheet, slots)
 }
@@ -115,7 +115,7 @@ pub extern "C" fn hildrasp_write_sheet(
 ) -> Written
     ensures answer { result ≡ (seen_write words.now records.now k w sheet.old).0 }
     ensures sheet { sheet.new ≡ (seen_write words.now records.now k w sheet.old).1 }
-    ensures demands { sheetWritten.Refuses words.now records.now k w sheet.old (result, sheet.new) × sheetWritten.Gives words.now records.now k w sheet.old (result, sheet.new) }
+    ensures demands { sheet_written.Refuses words.now records.now k w sheet.old (result, sheet.new) × sheet_written.Gives words.now records.now k w sheet.old (result, sheet.new) }
 {
     writer::write::write_sheet(words, records, k, w, sheet)
 }
@@ -125,7 +125,7 @@ pub extern "C" fn hildrasp_read_sheet(sheet: &[u8], words: &mut [u64], records: 
     ensures answer { result ≡ (seen_read sheet.now words.old records.old).0 }
     ensures words { words.new ≡ (seen_read sheet.now words.old records.old).1.0 }
     ensures records { records.new ≡ (seen_read sheet.now words.old records.old).1.1 }
-    ensures demands { sheetRead.Refuses sheet.now words.old records.old (result, (words.new, records.new)) × sheetRead.Gives sheet.now words.old records.old (result, (words.new, records.new)) }
+    ensures demands { sheet_read.Refuses sheet.now words.old records.old (result, (words.new, records.new)) × sheet_read.Gives sheet.now words.old records.old (result, (words.new, records.new)) }
 {
     sheet::read::read_sheet(sheet, words, records)
 }

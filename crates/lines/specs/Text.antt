@@ -1,15 +1,15 @@
 -- The text that the draw-sheet program prints, in ASCII.
 --
---   line f fs                   the field f and then the fields fs, parted by one blank, and a line feed
+--   line f fs                                         the field f and then the fields fs, parted by one blank, and a line feed
 --   draw_text, refused_text, early_text, late_text    the texts `draw`, `refused`, `early`, `late`
---   draw_line_of n k used rejected  `draw`, the count of records, k, the words used, the words rejected
---   slot_line_of w slot x           the number of the slot, from 1, its record x, and `early` for the first w slots, else `late`
---   refused_line_of number batch    `refused`, the number of the refusal, and the batch
---   first_line_of d                 the first line that tells of a draw
---   slot_lines w from xs         a line for each slot, of which the first is slot `from` and holds the first record of xs
---   told d slots                the lines that tell of a draw, which left the slots
---   room                        how many slots the program lends
---   output s                    all that the program prints for the bytes s of a sheet
+--   draw_line_of n k used rejected                    `draw`, the count of records, k, the words used, the words rejected
+--   slot_line_of w slot x                             the number of the slot, from 1, its record x, and `early` for the first w slots, else `late`
+--   refused_line_of number batch                      `refused`, the number of the refusal, and the batch
+--   first_line_of d                                   the first line that tells of a draw
+--   slot_lines w from xs                              a line for each slot, of which the first is slot `from` and holds the first record of xs
+--   told d slots                                      the lines that tell of a draw, which left the slots
+--   room                                              how many slots the program lends
+--   output s                                          all that the program prints for the bytes s of a sheet
 use Rattle.std.specs.Prelude.{true, false, List, [], ◌∷◌, ◌++◌, ℕ, ◌+◌, ltb, eqb, take, replicate}
 use Rattle.rules.specs.Width.{w64}
 use Rattle.answers.specs.Outcome.{Outcome, left}

@@ -1,12 +1,12 @@
 -- The batch that begins at a place of a list of bounds, as the loops over a list meet it. Assumes nothing.
 --
 --   batch_at W bs at            that batch
---   batch_within, batch_part   it lies within the list, from its place on
---   batch_rest, batch_none     the plan from a place on is its batch and the plan behind it; behind the last bound there is none
---   cut_end, cut_place         where the batch ends, as the code has it
---   cut-next                   the plan goes on there
---   cut_pos                    its product is 1 or more
---   cut-find                   the search for its word
+--   batch_within, batch_part    it lies within the list, from its place on
+--   batch_rest, batch_none      the plan from a place on is its batch and the plan behind it; behind the last bound there is none
+--   cut_end, cut_place          where the batch ends, as the code has it
+--   cut-next                    the plan goes on there
+--   cut_pos                     its product is 1 or more
+--   cut-find                    the search for its word
 use mathlib.Core.Path.{◌≡◌, ap, ◌∙◌}
 use mathlib.Core.Bool.{false}
 use mathlib.Core.List.{List, [], ◌∷◌}

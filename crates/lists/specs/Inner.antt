@@ -1,7 +1,7 @@
 -- What the cut answers.
 --
---   begins plan    the first batch of a plan; a plan with none is never asked, and what it would give is arbitrary
---   cut_at W bs at  where the batch that begins at a place of the list ends, and its product
+--   begins plan       the first batch of a plan; a plan with none is never asked, and what it would give is arbitrary
+--   cut_at W bs at    where the batch that begins at a place of the list ends, and its product
 use Rattle.std.specs.Prelude.{List, [], ◌∷◌, ℕ, ◌+◌, length, drop}
 use Rattle.rules.specs.Cut.{cut}
 use Rattle.rules.specs.Rolls.{product}

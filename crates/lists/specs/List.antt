@@ -3,7 +3,7 @@
 --   list_refusals W words start bs room    the numbers that it can meet, each with its test
 --   roll_list W words start bs room        what comes of it, with room for so many rolls
 --   seen_list W words start bs lent        what its caller sees: the answer, and the lent list of rolls as it is left; the contract of the
---                                         code is the equation with this
+--                                          code is the equation with this
 use Rattle.std.specs.Prelude.{List, ◌∷◌, ℕ, ltb, length}
 use Rattle.rules.specs.Cut.{cut}
 use Rattle.rules.specs.Limits.{max_bounds}

@@ -1,11 +1,11 @@
 -- Marks that test whether a list is an order: the loop of `mark_places`. The mark of a number is 0 until it is met, and from then on its
 -- place in 0, 1, .., n - 1, counted from 1. Assumes nothing.
 --
---   Marking                  the first i numbers of the list are below n, different and marked, and no other number is marked
---   unmarked                 a table of zeros has no mark
---   mark_none, mark_turn     before the first turn, and one turn
---   mark_large, mark_twice   a number that is too large, or marked already: not an order
---   mark_done, mark_places_lem   all marked: an order, and the mark of each of 0 .. n - 1 is its place, counted from 1
+--   Marking                       the first i numbers of the list are below n, different and marked, and no other number is marked
+--   unmarked                      a table of zeros has no mark
+--   mark_none, mark_turn          before the first turn, and one turn
+--   mark_large, mark_twice        a number that is too large, or marked already: not an order
+--   mark_done, mark_places_lem    all marked: an order, and the mark of each of 0 .. n - 1 is its place, counted from 1
 use mathlib.Core.Path.{◌≡◌, refl, sym, ap, ◌∙◌}
 use mathlib.Core.Logic.{◌≢◌}
 use mathlib.Core.Bool.{Bool, true, false}

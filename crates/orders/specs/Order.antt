@@ -3,7 +3,7 @@
 --   order_refusals ys room    the numbers that it can meet, each with its test
 --   rolls_behind ys room      what comes of it: the rolls behind the order ys, with room for so many
 --   seen_order ys lent        what its caller sees: the answer, and the lent list of rolls as it is left; the contract of the code is the
---                            equation with this
+--                             equation with this
 use Rattle.std.specs.Prelude.{not, List, [], ◌∷◌, ℕ, ◌-◌, ltb, length}
 use Rattle.rules.specs.Limits.{max_records}
 use Rattle.rules.specs.Order.{is_order, rolls_into}

@@ -1,7 +1,7 @@
 -- The words behind rolls. Assumes nothing.
 --
---   run_of, run_named, run_full   the run of a batch, as the operation gives it, and its length
---   promise                      the promise, at 64 bits
+--   run_of, run_named, run_full    the run of a batch, as the operation gives it, and its length
+--   promise                        the promise, at 64 bits
 use mathlib.Core.Path.{◌≡◌, refl, sym, ◌∙◌}
 use mathlib.Core.Bool.{false}
 use mathlib.Core.List.{List, [], ◌∷◌}

@@ -1,8 +1,8 @@
 -- Lists that a call can hold, number by number. Assumes nothing.
 --
---   below_nil, below_cons    no number, and one number more
---   one_number               a list of one number
---   all_below, all_below_lem      a test of a whole list
+--   below_nil, below_cons                              no number, and one number more
+--   one_number                                         a list of one number
+--   all_below, all_below_lem                           a test of a whole list
 --   word_0, word_half, words_01, words_10, words_11    the words of the calls on which the stand_ins are tried
 use mathlib.Core.Bool.{Bool, true, ◌&&◌}
 use mathlib.Core.List.{List, [], ◌∷◌}

@@ -1,12 +1,12 @@
 -- Lemire's method as demand 2 states it, and the definitions of rolls: each says what the other says, over every width. Assumes nothing.
 --
---   accepts_iff                  a word is accepted with these rolls exactly where it gives them
---   Ran, RanAs, follows_run    the run of a plan follows the method
---   RunBy, run_follows         and what follows the method is that run
---   by_method                  so what is read off the run is what the method gives
+--   accepts_iff                   a word is accepted with these rolls exactly where it gives them
+--   Ran, RanAs, follows_run       the run of a plan follows the method
+--   RunBy, run_follows            and what follows the method is that run
+--   by_method                     so what is read off the run is what the method gives
 --   rolled_range, rolled-count    rolls in range, and as many as bounds
---   suffice, one_outcome       number 10 applies exactly where the method gives nothing; and it gives one outcome
---   same_outcome, same_seen    two that go by the method have the same words and rolls, and give the same
+--   suffice, one_outcome          number 10 applies exactly where the method gives nothing; and it gives one outcome
+--   same_outcome, same_seen       two that go by the method have the same words and rolls, and give the same
 use mathlib.Core.Path.{◌≡◌, refl, sym, ap, ap₂, ◌∙◌, subst}
 use mathlib.Core.Logic.{◌↔◌}
 use mathlib.Core.Bool.{Bool, true, false}

@@ -2,9 +2,9 @@ use Rattle.rules.proofs.Facts.{truth}
 -- The runs of words behind an order, as the two ways back name them. An order of different records is an order of their places: a shuffle
 -- moves records as it moves their places, so the rolls behind the places are the rolls behind the records. Assumes nothing.
 --
---   length-places, get_or-places     the places of records, one by one
---   rolls_named                  the rolls behind the places of an order, as the operation gives them: those that are looked up in the records
---   runs_full, runs_in           the runs of a plan, as the operation gives them
+--   length-places, get_or-places    the places of records, one by one
+--   rolls_named                     the rolls behind the places of an order, as the operation gives them: those that are looked up in the records
+--   runs_full, runs_in              the runs of a plan, as the operation gives them
 use mathlib.Core.Path.{◌≡◌, refl, sym, ap, ◌∙◌, subst}
 use mathlib.Core.Logic.{◌↔◌}
 use mathlib.Core.List.{List, [], ◌∷◌, ◌++◌, append-nil}

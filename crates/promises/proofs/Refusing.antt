@@ -11,7 +11,7 @@
 --   Numbered, numbered_nil,     a refusal that applies has a number above 0
 --     numbered_no, numbered_word, numbered_words, numbered_bounds
 --   settle                      two answers that are as refused agree, where they do with no refusal
-use mathlib.Core.Path.{◌≡◌, refl, sym, ap, ◌∙◌}
+use mathlib.Core.Path.{subst, ◌≡◌, refl, sym, ap, ◌∙◌}
 use mathlib.Core.Bool.{Bool, true, false}
 use mathlib.Core.Logic.{◌≢◌}
 use mathlib.Core.List.{List, [], ◌∷◌, ◌++◌}
@@ -160,8 +160,10 @@ first_is_lowest [] v = tt
 first_is_lowest (r ∷ rs) v = go r.applies refl (first_is_lowest rs (rising_tail r.number (numbers_of rs) v))
   where
     go : (b : Bool) → r.applies ≡ b → Lowest (first_of rs).number rs → Lowest (first_of (r ∷ rs)).number (r ∷ rs)
-    go true e ih = rw (first_here r rs e) (λ f. le_refl r.number, above r.number rs v r.number (le_refl r.number))
-    go false e ih = rw (first_past r rs e) (λ f. let z : ◌≡◌ {A = Bool} false true = sym e ∙ f in clash cc, ih)
+    go true e ih =
+        subst (λ (x : Refusal). Lowest x.number (r ∷ rs)) (sym (first_here r rs e)) (λ f. le_refl r.number, above r.number rs v r.number (le_refl r.number))
+    go false e ih =
+        subst (λ (x : Refusal). Lowest x.number (r ∷ rs)) (sym (first_past r rs e)) (λ f. let z : ◌≡◌ {A = Bool} false true = sym e ∙ f in clash cc, ih)
 
 -- ---- a refusal that applies has a number above 0
 

@@ -1,10 +1,10 @@
 -- Running a draw sheet: a sheet that nothing refuses is drawn as the sample of its words and records. Assumes nothing.
 --
---   fits                                      the words of a sheet are below 2^64 and its records below 2^32
---   ten_or_none                               past the third number nothing is given, or 10
+--   fits                                                   the words of a sheet are below 2^64 and its records below 2^32
+--   ten_or_none                                            past the third number nothing is given, or 10
 --   few, size, words_left, rollable, method, roll_range    what is known of a sheet whose draw nothing refuses
---   none_refused                              nothing refuses where no number is given
---   promise                                   the promise, at 64 bits
+--   none_refused                                           nothing refuses where no number is given
+--   promise                                                the promise, at 64 bits
 use mathlib.Core.Path.{◌≡◌, refl, sym, ap, subst, ◌∙◌}
 use mathlib.Core.Logic.{◌⊎◌, inl, inr, ◌≢◌}
 use mathlib.Core.List.{List, [], ◌∷◌, ◌++◌}

@@ -1,7 +1,7 @@
 -- The shuffle. Assumes nothing.
 --
---   few_records    a count that number 2 lets pass
---   plan_fits      the batches of a shuffle can be rolled
+--   few_records         a count that number 2 lets pass
+--   plan_fits           the batches of a shuffle can be rolled
 --   demand1, promise    demand 1 over a width; the promise, at 64 bits
 use mathlib.Core.Path.{◌≡◌, refl, sym, ap, ◌∙◌}
 use mathlib.Core.Bool.{false}

@@ -1,10 +1,10 @@
 -- Which number is given, of three that are looked for in turn. Assumes nothing.
 --
---   differ          two numbers that the test tells apart
---   neither         a number that differs from two is neither
---   Parted          the three numbers and what is said of the rest exclude each other
---   which           the statement, of the first refusal of a list whose tests fail exactly where their sentences hold
---   none_applies    where no number was given no refusal applies
+--   differ                                    two numbers that the test tells apart
+--   neither                                   a number that differs from two is neither
+--   Parted                                    the three numbers and what is said of the rest exclude each other
+--   which                                     the statement, of the first refusal of a list whose tests fail exactly where their sentences hold
+--   none_applies                              where no number was given no refusal applies
 --   tested_sound, tested_size, tested_room    the tests of a sheet fail exactly where their sentences hold
 use mathlib.Core.Path.{◌≡◌, refl, sym, ap}
 use mathlib.Core.Bool.{Bool, true, false, not, ◌||◌}

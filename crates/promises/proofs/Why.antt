@@ -1,9 +1,9 @@
 -- Why a place was drawn or not. An answer that tells what happened to the place is the answer that is given: nothing else happened, and the
 -- method gives one series of rolls. Assumes nothing.
 --
---   none_refused                 nothing refuses where no number is given
---   rolled, later, final         the rolls of the draw, those of the reservoir, and where the others put a slot
---   answered, placed             where nothing refuses: the answer, and that the place is below n
+--   none_refused                                            nothing refuses where no number is given
+--   rolled, later, final                                    the rolls of the draw, those of the reservoir, and where the others put a slot
+--   answered, placed                                        where nothing refuses: the answer, and that the place is below n
 --   can_meet, demand1, when, demand2, settled, stand_ins    parts of the promise
 use mathlib.Core.Path.{◌≡◌, refl, sym, ap, subst, ◌∙◌}
 use mathlib.Core.Logic.{◌↔◌, ◌⊎◌, inl, inr}

@@ -1,11 +1,11 @@
 -- The words behind rolls: demands 1 and 2 of it, that they settle its answer, and its stand-in.
 --
---   Op                              the operation as its caller observes it: bounds, rolls
---   Numbers W                       the numbers that it can meet, as document 01 lists them
---   FullRun L bs run                a run of words that is named, not empty, ends below 2^L, and has 2^L / product words
---   Refuses, Gives W bs rs got      demands 1 and 2, of one call and what the caller got: the words from first to last, and no other words,
---                                   give those rolls, accepted
---   Demand1 W op, Demand2 W op      the demands, on every call
+--   Op                                  the operation as its caller observes it: bounds, rolls
+--   Numbers W                           the numbers that it can meet, as document 01 lists them
+--   FullRun L bs run                    a run of words that is named, not empty, ends below 2^L, and has 2^L / product words
+--   Refuses, Gives W bs rs got          demands 1 and 2, of one call and what the caller got: the words from first to last, and no other words,
+--                                       give those rolls, accepted
+--   Demand1 W op, Demand2 W op          the demands, on every call
 --   Settled W, StandIns W, Promise W    as of one batch
 use Rattle.std.specs.Prelude.{◌≡◌, ◌↔◌, ◌≢◌, List, [], ◌∷◌, ℕ, ◌+◌, ◌-◌, ◌/◌, ◌^◌, ◌<◌, ◌≤◌}
 use Rattle.rules.specs.Rolls.{product}

@@ -7,21 +7,21 @@
 -- the start place as given (0 where the operation takes none), and zeros elsewhere, except that 10 also names the first batch, from 0,
 -- that got no word. Every lent list stays the same."
 --
---   Callable L xs                      a call at width L can hold these words or bounds
---   first_of refusals                   the first whose test holds; number 0 where none holds
---   AsRefused refusals saying no got   the number given is that of the first, and where it is not 0 the caller got what is said of that
---                                      refusal, alone: the answer that shows it (answers/specs/Outcome) and the lent list as it was; no
---                                      number but 10 names a batch
---   numbers_of refusals                 the numbers of a list of refusals, in their order
---   Rising ns                          each number is below the next
---   Lowest n refusals                  no refusal whose test holds has a number below n
---   FirstIsLowest                      the statement: of refusals whose numbers rise the first that applies is the lowest
+--   Callable L xs                             a call at width L can hold these words or bounds
+--   first_of refusals                         the first whose test holds; number 0 where none holds
+--   AsRefused refusals saying no got          the number given is that of the first, and where it is not 0 the caller got what is said of that
+--                                             refusal, alone: the answer that shows it (answers/specs/Outcome) and the lent list as it was; no
+--                                             number but 10 names a batch
+--   numbers_of refusals                       the numbers of a list of refusals, in their order
+--   Rising ns                                 each number is below the next
+--   Lowest n refusals                         no refusal whose test holds has a number below n
+--   FirstIsLowest                             the statement: of refusals whose numbers rise the first that applies is the lowest
 --   Which first second third A B C Rest no    of three numbers that are looked for in this order, each tells that a sentence fails: A, B, C; where
---                                      all three hold the number is as the rest says. So it is known of the answer when each number is given,
---                                      whatever tests a list of refusals has
+--                                             all three hold the number is as the rest says. So it is known of the answer when each number is given,
+--                                             whatever tests a list of refusals has
 --   NamesBatch L plan words start no batch    at number 10 the batch is the one at which the run of the plan ended
---   FirstShort L                       the statement: number 10 names a batch of the plan; those before it have their words, and with it the
---                                      words do not suffice
+--   FirstShort L                              the statement: number 10 names a batch of the plan; those before it have their words, and with it the
+--                                             words do not suffice
 use Rattle.std.specs.Prelude.{◌≡◌, ◌↔◌, ◌≢◌, true, false, not, List, [], ◌∷◌, ℕ, ◌+◌, ◌^◌, ◌<◌, ◌≤◌, T, length, take}
 use Rattle.rules.specs.Order.{AllBelow}
 use Rattle.rules.specs.Run.{run, short, suffices}

@@ -6,18 +6,18 @@
 -- to its rolls." Document 01, "Numbers for no": "none is given otherwise [..] Success returns the place after the last word used (the start
 -- where none was) and the count of rejected words; words used are batches plus rejected."
 --
---   Allowed refusals                 none of the refusals applies
---   Unfolded L bs word rs r          the rolls rs and the last r of a word: one roll for each bound, each below it, and product times word
---                                    = 2^L times the value of the rolls + the last r, as the paper has it
---   Accepts L bs word rs             the word is accepted and gives these rolls: the last r is at least t = 2^L mod product
---   Rejects L bs word                the word is rejected: the last r is below t
---   First L bs words from place rs   of the words from a place on, the first that is accepted stands here, and gives these rolls
---   Follows L plan words from next rs    each batch in turn takes the first accepted word from the place after the one before it, and they
---                                    give the rolls rs, batch after batch; next is the place after the last
+--   Allowed refusals                                none of the refusals applies
+--   Unfolded L bs word rs r                         the rolls rs and the last r of a word: one roll for each bound, each below it, and product times word
+--                                                   = 2^L times the value of the rolls + the last r, as the paper has it
+--   Accepts L bs word rs                            the word is accepted and gives these rolls: the last r is at least t = 2^L mod product
+--   Rejects L bs word                               the word is rejected: the last r is below t
+--   First L bs words from place rs                  of the words from a place on, the first that is accepted stands here, and gives these rolls
+--   Follows L plan words from next rs               each batch in turn takes the first accepted word from the place after the one before it, and they
+--                                                   give the rolls rs, batch after batch; next is the place after the last
 --   Lemire L plan words start next rejected Read    it follows for some rolls; words used = batches + rejected; the rolls read so
---   ByMethod L plan words start read got    nothing is refused, the method gave the words used, and the lent list is what its rolls read as
---   Suffice L                        the statement: of a plan that can be rolled number 10 applies exactly where the method gives nothing
---   OneOutcome L                     the statement: and it gives one next place, one count, one series of rolls
+--   ByMethod L plan words start read got            nothing is refused, the method gave the words used, and the lent list is what its rolls read as
+--   Suffice L                                       the statement: of a plan that can be rolled number 10 applies exactly where the method gives nothing
+--   OneOutcome L                                    the statement: and it gives one next place, one count, one series of rolls
 use Rattle.std.specs.Prelude.{◌≡◌, ◌↔◌, false, List, [], ◌∷◌, ℕ, ◌+◌, ◌*◌, ◌%◌, ◌^◌, ◌<◌, ◌≤◌, T, length, take, drop, get_or}
 use Rattle.rules.specs.Plan.{RollablePlan}
 use Rattle.rules.specs.Rolls.{product, value, in_range}

@@ -9,15 +9,15 @@
 -- behind an order" gives its rolls. Each batch's part of these rolls, the next of them, as many as it has bounds, goes to the operation
 -- "words behind rolls", which gives the run.
 --
---   Paired R xs ys                  R holds of each x and y at one place, and there are as many of both
---   places xs ys                    the place in xs of each record of ys
+--   Paired R xs ys                   R holds of each x and y at one place, and there are as many of both
+--   places xs ys                     the place in xs of each record of ys
 --   runs_named behind plan rs        the run of each batch of a plan, as the operation behind names it
---   InRun run w                     the word lies in the run
---   Produces got ys                 what a shuffle gave is not refused, and is that order
---   Demand3At W op behind order n   the demand, for n records, of a shuffle and the two ways back: the order has its rolls; each batch has
---                                   a full run (Behind, FullRun); and which lists produce the order
---   Demand3 W op behind order       the demand, for up to 16,384 records
---   OwnPlaces                       and of the records 0 .. n - 1 each is its own place, so an order of them is asked for as it is
+--   InRun run w                      the word lies in the run
+--   Produces got ys                  what a shuffle gave is not refused, and is that order
+--   Demand3At W op behind order n    the demand, for n records, of a shuffle and the two ways back: the order has its rolls; each batch has
+--                                    a full run (Behind, FullRun); and which lists produce the order
+--   Demand3 W op behind order        the demand, for up to 16,384 records
+--   OwnPlaces                        and of the records 0 .. n - 1 each is its own place, so an order of them is asked for as it is
 use Rattle.std.specs.Prelude.{◌≡◌, ◌↔◌, List, [], ◌∷◌, ℕ, ◌-◌, ◌≤◌, length, take, drop, replicate}
 use Rattle.rules.specs.Limits.{max_records}
 use Rattle.rules.specs.Order.{place_of, Distinct, Reorders}

@@ -1,11 +1,11 @@
 -- The rolls behind an order: demands 1 and 2 of it, that they settle its answer and the lent list, and its stand-in. No width plays a part.
 --
---   Op                           the operation as its caller observes it: the order, the lent list of rolls
---   Numbers                      the numbers that it can meet, as document 01 lists them
---   Refuses, Behind, Gives ys lent got   demands 1 and 2, of one call and what the caller got: the rolls, and no others in range, shuffle
---                                0, .., n - 1 into the order; they stand in front of the rest of the lent list
---   Demand1 op, Demand2 op       the demands, on every call
---   Settled, StandIns, Promise   as of one batch
+--   Op                                    the operation as its caller observes it: the order, the lent list of rolls
+--   Numbers                               the numbers that it can meet, as document 01 lists them
+--   Refuses, Behind, Gives ys lent got    demands 1 and 2, of one call and what the caller got: the rolls, and no others in range, shuffle
+--                                         0, .., n - 1 into the order; they stand in front of the rest of the lent list
+--   Demand1 op, Demand2 op                the demands, on every call
+--   Settled, StandIns, Promise            as of one batch
 use Rattle.std.specs.Prelude.{◌≡◌, ◌≢◌, List, [], ◌∷◌, ◌++◌, ℕ, ◌-◌, length, drop}
 use Rattle.rules.specs.Order.{Only}
 use Rattle.rules.specs.Reservoir.{countup}

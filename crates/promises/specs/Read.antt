@@ -3,13 +3,13 @@
 -- Document 02, M-100: "reading it, whether or not its words suffice for the draw, gives back the same six numbers and areas [..] A sound
 -- sheet with gaps is read as before".
 --
---   Op                                   the operation as its caller observes it: the sheet's bytes, the lent lists of words and of records
---   CanMeet                              the numbers that it can meet: 1 and 3 as on a sheet, and 6
+--   Op                                           the operation as its caller observes it: the sheet's bytes, the lent lists of words and of records
+--   CanMeet                                      the numbers that it can meet: 1 and 3 as on a sheet, and 6
 --   Refuses, Reads, Gives s words records got    demands 1 and 2, of one call and what the caller got: the six numbers; and in front of each
---                                        list what the sheet holds, whatever its words are
---   When s words records no              which number is given: 1 and 3 as on a sheet, then 6 where either list is too short; else none
---   Demand1 op, Demand2 op               the demands, on every call
---   Settled, StandIns, Promise           as of one batch
+--                                                list what the sheet holds, whatever its words are
+--   When s words records no                      which number is given: 1 and 3 as on a sheet, then 6 where either list is too short; else none
+--   Demand1 op, Demand2 op                       the demands, on every call
+--   Settled, StandIns, Promise                   as of one batch
 use Rattle.std.specs.Prelude.{◌≡◌, ◌≢◌, List, [], ◌∷◌, ◌++◌, ℕ, ◌≤◌, length, drop}
 use Rattle.rules.specs.Width.{w64}
 use Rattle.sheet.specs.ReadSheet.{read_refusals, drawn_by, shown_drawn, seen_read}

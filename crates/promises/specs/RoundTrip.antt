@@ -1,14 +1,14 @@
 -- Sheets written, read, run and written again: a statement for each sentence of document 02, M-100.
 --
---   Back W ws xs k w s         what is said of the written sheet s: it is sound; read, it gives the six numbers, the words and the records;
---                              written again, into any list, it is the same; and its draw is their sample
---   WrittenBack W              the statement: a written sheet has at most 65,535 bytes; and it is so of its bytes alone, or with bytes behind it
---                              up to 65,535 in all. No condition is on the words
---   Again W s got              what is said of a sheet s that was read, and of what its reader got who wrote its words and records again
---   ReadAgain W                the statement: of every sheet that was read, written into any list with room for it
+--   Back W ws xs k w s                       what is said of the written sheet s: it is sound; read, it gives the six numbers, the words and the records;
+--                                            written again, into any list, it is the same; and its draw is their sample
+--   WrittenBack W                            the statement: a written sheet has at most 65,535 bytes; and it is so of its bytes alone, or with bytes behind it
+--                                            up to 65,535 in all. No condition is on the words
+--   Again W s got                            what is said of a sheet s that was read, and of what its reader got who wrote its words and records again
+--   ReadAgain W                              the statement: of every sheet that was read, written into any list with room for it
 --   sheet_at at gap, plain, gapped, short    sheets with their records at this place, behind a gap; with none; and with words that do not suffice
---   table                      examples
---   RoundTrip W                the three of them
+--   table                                    examples
+--   RoundTrip W                              the three of them
 use Rattle.std.specs.Prelude.{◌≡◌, Bool, not, List, [], ◌∷◌, ◌++◌, ℕ, ◌+◌, ◌*◌, ◌≤◌, T, eqb, length, take, drop}
 use Rattle.rules.specs.Width.{Width, w64}
 use Rattle.draws.specs.Sample.{sample}

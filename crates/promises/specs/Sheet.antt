@@ -1,20 +1,20 @@
 -- Running a draw sheet: demands 1 and 2 of it, that they settle its answer and the lent list, and its stand-in.
 --
---   Op                                the operation as its caller observes it: the sheet's bytes, the lent list of slots
---   Bytes s                           a call can hold these bytes
---   CanMeet W                         the numbers that it can meet, as document 01 lists them
---   Sound                             the test of number 1 is the sentence of document 01
---   Fits                              the words of a sheet are below 2^64 and its records below 2^32, so that demand 2 of a sheet is Lemire's
---                                     method on the sheet's own words
---   RightSize n k w                   k and w are right on a sheet of n records, as document 01 says it
---   When s lent no                    which number is given: 1 where the sheet is not sound, then 3 where k and w are not right, then 6 where the
---                                     lent list is too short; else none, or 10
---   answer_of d                        the answer without the six numbers
+--   Op                                    the operation as its caller observes it: the sheet's bytes, the lent list of slots
+--   Bytes s                               a call can hold these bytes
+--   CanMeet W                             the numbers that it can meet, as document 01 lists them
+--   Sound                                 the test of number 1 is the sentence of document 01
+--   Fits                                  the words of a sheet are below 2^64 and its records below 2^32, so that demand 2 of a sheet is Lemire's
+--                                         method on the sheet's own words
+--   RightSize n k w                       k and w are right on a sheet of n records, as document 01 says it
+--   When s lent no                        which number is given: 1 where the sheet is not sound, then 3 where k and w are not right, then 6 where the
+--                                         lent list is too short; else none, or 10
+--   answer_of d                           the answer without the six numbers
 --   Refuses, Draws, Gives W s lent got    demands 1 and 2, of one call and what the caller got: the sample from start 0 of the sheet's words
---                                     and records, by the very demand of the sample; and the six numbers come back with it
---   Demand1 W op, Demand2 W op        the demands, on every call
---   BatchNamed W                      at number 10 the batch is the one at which the run ended
---   Settled W, StandIns W, Promise W  as of one batch
+--                                         and records, by the very demand of the sample; and the six numbers come back with it
+--   Demand1 W op, Demand2 W op            the demands, on every call
+--   BatchNamed W                          at number 10 the batch is the one at which the run ended
+--   Settled W, StandIns W, Promise W      as of one batch
 use Rattle.std.specs.Prelude.{◌≡◌, ◌↔◌, ◌⊎◌, ◌≢◌, List, [], ◌∷◌, ◌++◌, ℕ, ◌^◌, ◌≤◌, T, length, drop}
 use Rattle.rules.specs.Order.{AllBelow}
 use Rattle.rules.specs.Sample.{sample_with}

@@ -1,23 +1,23 @@
 -- Why a place was drawn or not: demands 1 and 2 of it, that they settle its answer, its stand_ins, and a statement for each further sentence
 -- of document 02, M-101: "For a sheet and a record's place, tell the true reason". M-102: "M-101's first two reasons add the final slot."
 --
---   Op                               the operation as its caller observes it: the sheet's bytes, the place
---   CanMeet W                        the numbers that it can meet, in the order of document 02
---   When s place no                  which number is given: 1 and 3 as on a sheet, then 7 where the place is not below the count of records; else
---                                    none, or 10
---   Explains W s place got           of the rolls that Lemire's method gives on the sheet's words: the answer tells what happened to the place
---   Refuses, Gives W s place got     demands 1 and 2, of one call and what the caller got
---   Demand1 W op, Demand2 W op       the demands, on every call
---   Settled W, StandIns W            as of one batch
---   AsTheDraw W                      the statement: where the place is below n it is refused as the run of the sheet is, by the same number with the
---                                    same batch, or uses and rejects the same words
---   DrawnIn answer slot, NotDrawn    the answer says that the place was drawn, with this final slot; or that it was not
---   ThisDraw W s lent                what is said of a sheet that was drawn: some places are drawn by its words; the records drawn are those at these
---                                    places; and the reasons 1 and 2 are given to these places, 3 and 4 to the others
---   Takers W s slot p ps             from place p on each place held the slot until the next one took it; the last was rolled in and stayed
+--   Op                                     the operation as its caller observes it: the sheet's bytes, the place
+--   CanMeet W                              the numbers that it can meet, in the order of document 02
+--   When s place no                        which number is given: 1 and 3 as on a sheet, then 7 where the place is not below the count of records; else
+--                                          none, or 10
+--   Explains W s place got                 of the rolls that Lemire's method gives on the sheet's words: the answer tells what happened to the place
+--   Refuses, Gives W s place got           demands 1 and 2, of one call and what the caller got
+--   Demand1 W op, Demand2 W op             the demands, on every call
+--   Settled W, StandIns W                  as of one batch
+--   AsTheDraw W                            the statement: where the place is below n it is refused as the run of the sheet is, by the same number with the
+--                                          same batch, or uses and rejects the same words
+--   DrawnIn answer slot, NotDrawn          the answer says that the place was drawn, with this final slot; or that it was not
+--   ThisDraw W s lent                      what is said of a sheet that was drawn: some places are drawn by its words; the records drawn are those at these
+--                                          places; and the reasons 1 and 2 are given to these places, 3 and 4 to the others
+--   Takers W s slot p ps                   from place p on each place held the slot until the next one took it; the last was rolled in and stayed
 --   worked, with words k, fields, table    a sheet in which all four reasons occur; its records with other words and another k; the ten fields of
---                                    an answer; examples
---   Promise W                        the promise
+--                                          an answer; examples
+--   Promise W                              the promise
 use Rattle.std.specs.Prelude.{◌≡◌, ◌↔◌, ◌⊎◌, ◌≢◌, Bool, List, [], ◌∷◌, ◌++◌, map, ℕ, ◌+◌, ◌^◌, ◌<◌, ◌≤◌, T, length, drop, get_or, replicate}
 use Rattle.rules.specs.Reservoir.{countup}
 use Rattle.rules.specs.Width.{Width, w64}

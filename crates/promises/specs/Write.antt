@@ -3,15 +3,15 @@
 -- Document 02, M-100: "from words, records, k and w into a lent byte list, words at 24, records straight after, bytes past the sheet
 -- untouched. [..] Refusals: 2 if the sheet would pass 65,535 bytes, 3 as on a sheet, 6 if it doesn't fit the list."
 --
---   Op                                     the operation as its caller observes it: words, records, k, w, the lent list of bytes
---   Callable ws xs                         a call can hold these words and records
---   CanMeet                                the numbers that it can meet, in the order of document 02
+--   Op                                           the operation as its caller observes it: words, records, k, w, the lent list of bytes
+--   Callable ws xs                               a call can hold these words and records
+--   CanMeet                                      the numbers that it can meet, in the order of document 02
 --   Refuses, Writes, Gives ws xs k w lent got    demands 1 and 2, of one call and what the caller got: each byte of the sheet by the number
---                                          that stands there; the bytes past it as they were
---   When ws xs k w lent no                 which number is given: 2 where the sheet would pass 65,535 bytes, then 3 as on a sheet, then 6 where it
---                                          does not fit the list; else none
---   Demand1 op, Demand2 op                 the demands, on every call
---   Settled, StandIns, Promise             as of one batch
+--                                                that stands there; the bytes past it as they were
+--   When ws xs k w lent no                       which number is given: 2 where the sheet would pass 65,535 bytes, then 3 as on a sheet, then 6 where it
+--                                                does not fit the list; else none
+--   Demand1 op, Demand2 op                       the demands, on every call
+--   Settled, StandIns, Promise                   as of one batch
 use Rattle.std.specs.Prelude.{◌≡◌, ◌≢◌, List, [], ◌∷◌, ℕ, ◌+◌, ◌*◌, ◌^◌, ◌≤◌, length, drop}
 use Rattle.rules.specs.Order.{AllBelow}
 use Rattle.areas.specs.Pinned.{Area}

@@ -1,9 +1,9 @@
 -- What the caller of why sees. Assumes nothing.
 --
---   told-done, told-short    the sample was rolled, or its words did not suffice
---   told_slot                a reason with a final slot
---   why_unread               the sheet was not read: refused as the reading was
---   seen_past, seen_read_lem     it was: refused by 7, or what is told of its sample
+--   told-done, told-short       the sample was rolled, or its words did not suffice
+--   told_slot                   a reason with a final slot
+--   why_unread                  the sheet was not read: refused as the reading was
+--   seen_past, seen_read_lem    it was: refused by 7, or what is told of its sample
 use mathlib.Core.Path.{◌≡◌, sym, ap, ap₂, ◌∙◌}
 use mathlib.Core.List.{List}
 use Prim.Native.Nat.{ℕ, ◌-◌, ◌<◌, ◌≤◌}

@@ -2,16 +2,16 @@
 -- the reservoir names, if it is below k, gets place k + i. Then the slots are shuffled. Below, js are the rolls of the reservoir alone, and rolls all
 -- those of the draw: the first n - k are the reservoir's.
 --
---   slots_after k js t             the places that the slots hold when the first t steps are done, by the reservoir of the sample itself
---   Holds k js slot p t           the slot holds place p when t steps are done
---   turn k p                      how many steps are done when place p has had its turn: none for the first k; for a later place its own is
---                                 the last
---   HeldUntil k js slot p t       the slot holds place p from its turn until t steps are done
---   Rolled k js p roll            place p has a roll, at its step p - k, and it is this one
---   Happened k js p fate          this became of place p: the four reasons of document 02, as propositions about the slots and the rolls
---   EndsIn n k rolls p slot       the slot holds place p when the slots are shuffled: the sample of the places 0, .., n - 1 has it there
---   Tells n k rolls p answer      the answer tells what happened to place p: the number of the reason, what it names, and 0 in the fields that do
---                                 not apply
+--   slots_after k js t          the places that the slots hold when the first t steps are done, by the reservoir of the sample itself
+--   Holds k js slot p t         the slot holds place p when t steps are done
+--   turn k p                    how many steps are done when place p has had its turn: none for the first k; for a later place its own is
+--                               the last
+--   HeldUntil k js slot p t     the slot holds place p from its turn until t steps are done
+--   Rolled k js p roll          place p has a roll, at its step p - k, and it is this one
+--   Happened k js p fate        this became of place p: the four reasons of document 02, as propositions about the slots and the rolls
+--   EndsIn n k rolls p slot     the slot holds place p when the slots are shuffled: the sample of the places 0, .., n - 1 has it there
+--   Tells n k rolls p answer    the answer tells what happened to place p: the number of the reason, what it names, and 0 in the fields that do
+--                               not apply
 use Rattle.std.specs.Prelude.{◌≡◌, ◌⊎◌, List, ℕ, ◌+◌, ◌-◌, ◌<◌, ◌≤◌, length, take, get_or}
 use Rattle.rules.specs.Reservoir.{countup, reservoir}
 use Rattle.rules.specs.Sample.{sample_with}

@@ -1,10 +1,10 @@
 -- Why a record of a draw sheet was drawn or not: the refusals in the order of document 02, and what the caller sees.
 --
---   why_refusals W s place       the numbers that it can meet, each with its test
---   why W s place               what comes of it: the rolls of the draw of the sheet s
+--   why_refusals W s place           the numbers that it can meet, each with its test
+--   why W s place                    what comes of it: the rolls of the draw of the sheet s
 --   told next rejected final fate    the answer that tells what became of a place, where final tells the final slot of what a slot holds
---   shown_why n k place outcome  the answer that the caller gets
---   seen_why W s place           what its caller sees; the contract of the code is the equation with this
+--   shown_why n k place outcome      the answer that the caller gets
+--   seen_why W s place               what its caller sees; the contract of the code is the equation with this
 use Rattle.std.specs.Prelude.{List, [], ◌∷◌, ◌++◌, ℕ, ◌-◌, leb, take, drop}
 use Rattle.rules.specs.Run.{run, next, rejected}
 use Rattle.rules.specs.Width.{Width}

@@ -1,11 +1,11 @@
 -- A list of n numbers holds each of 0 .. n - 1 once exactly when all are below n and no two are alike. The reason is one count: how
 -- often 0, .., n - 1 stand in the list, added up, is how many of its numbers are below n. Assumes nothing.
 --
---   order_iff          each once, exactly when all below and no two alike
---   order_among        such a list has each of 0 .. n - 1 among its numbers
---   order_reorders     such a list is an order of 0, 1, .., n - 1
---   countup_distinct   which are different
---   rolls_behind_lem       so its rolls, looked up, and no others in range shuffle 0, 1, .., n - 1 into it
+--   order_iff           each once, exactly when all below and no two alike
+--   order_among         such a list has each of 0 .. n - 1 among its numbers
+--   order_reorders      such a list is an order of 0, 1, .., n - 1
+--   countup_distinct    which are different
+--   rolls_behind_lem    so its rolls, looked up, and no others in range shuffle 0, 1, .., n - 1 into it
 use mathlib.Core.Path.{◌≡◌, refl, sym, ◌∙◌}
 use mathlib.Core.Logic.{◌↔◌}
 use mathlib.Core.List.{List}

@@ -1,18 +1,18 @@
 -- Orders of different records and series of rolls: each series in range gives an order, and each order comes from one series, the one
 -- that is looked up. The batches play no part: a shuffle is one flat series with the bounds n, n - 1, .., 2. Assumes nothing.
 --
---   place_first                                      the first place of a record, or the length
---   place_at                                         a record that stands in a list stands at its place
---   place_of_lem                                         the place of a record that stands at one place
---   range_cons                                       one roll in range of a shuffle's bounds
---   length-shuffle                                   a shuffle keeps the number of records
---   shuffle_reorders                                 each series of rolls in range gives an order of the records
---   Reordered, reordered                             an order of different records, place by place
---   Midway, midway_start, midway_roll, midway_step   shuffled into an order from the end down to a place
---   rolls_into_step, rolls_into_none                 one roll behind an order; none for 0 or 1 record
---   length-rolls_into                                how many rolls are behind an order
---   one_series                                       for each order the rolls looked up, and no others in range, give it
---   shuffle-append                                   one series of rolls, and then another
+--   place_first                                       the first place of a record, or the length
+--   place_at                                          a record that stands in a list stands at its place
+--   place_of_lem                                      the place of a record that stands at one place
+--   range_cons                                        one roll in range of a shuffle's bounds
+--   length-shuffle                                    a shuffle keeps the number of records
+--   shuffle_reorders                                  each series of rolls in range gives an order of the records
+--   Reordered, reordered                              an order of different records, place by place
+--   Midway, midway_start, midway_roll, midway_step    shuffled into an order from the end down to a place
+--   rolls_into_step, rolls_into_none                  one roll behind an order; none for 0 or 1 record
+--   length-rolls_into                                 how many rolls are behind an order
+--   one_series                                        for each order the rolls looked up, and no others in range, give it
+--   shuffle-append                                    one series of rolls, and then another
 use mathlib.Core.Path.{◌≡◌, refl, sym, ap, ap₂, ◌∙◌, subst}
 use mathlib.Core.Logic.{◌↔◌, ◌≢◌}
 use mathlib.Core.Bool.{Bool, true, false}

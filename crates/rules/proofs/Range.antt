@@ -1,12 +1,12 @@
 -- Rolls in range of their bounds. Assumes nothing.
 --
---   in_range_cons                           rolls in range, one roll at a time
---   range_count                             rolls that are not as many as the bounds are not in range
---   range_reached, range_below, range_end   whether the rolls from a place on are in range
---   range_true                              a test that passes
---   length_in_range                            rolls in range are as many as the bounds
---   range_later                             and so they are from any place on
---   range_split, range_join                 rolls in range, batch by batch
+--   in_range_cons                            rolls in range, one roll at a time
+--   range_count                              rolls that are not as many as the bounds are not in range
+--   range_reached, range_below, range_end    whether the rolls from a place on are in range
+--   range_true                               a test that passes
+--   length_in_range                          rolls in range are as many as the bounds
+--   range_later                              and so they are from any place on
+--   range_split, range_join                  rolls in range, batch by batch
 use mathlib.Core.Path.{◌≡◌, refl, sym, ap, ap₂, ◌∙◌, subst}
 use mathlib.Core.Logic.{◌↔◌}
 use mathlib.Core.Bool.{Bool, true, false, ◌&&◌, and-false}

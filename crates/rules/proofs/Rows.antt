@@ -1,13 +1,13 @@
 -- Numbers in a row, as the bounds of a shuffle and of a sample are. Assumes nothing.
 --
---   length-countdown, countdown-cons, get_or-countdown   m, m - 1, ..
---   length-countup, get_or-countup                       i, i + 1, ..
---   countup_add, countup_snoc                          one row after the other, and one number more
---   take-countup, drop-countup                         a row in two parts
---   map-places                                         what stands at each place, in a row, is the list
---   length-shuffle_bounds, no_bounds, bounds_cons    the bounds n, n - 1, .., 2
---   countdown_add                                    one row after the other
---   product-countdown                                the product of a row is 1 or more, and at most a power
+--   length-countdown, countdown-cons, get_or-countdown    m, m - 1, ..
+--   length-countup, get_or-countup                        i, i + 1, ..
+--   countup_add, countup_snoc                             one row after the other, and one number more
+--   take-countup, drop-countup                            a row in two parts
+--   map-places                                            what stands at each place, in a row, is the list
+--   length-shuffle_bounds, no_bounds, bounds_cons         the bounds n, n - 1, .., 2
+--   countdown_add                                         one row after the other
+--   product-countdown                                     the product of a row is 1 or more, and at most a power
 use mathlib.Core.Path.{◌≡◌, refl, sym, ap, ap₂, ◌∙◌}
 use mathlib.Core.List.{List, [], ◌∷◌, ◌++◌, map}
 use Prim.Native.Nat.{ℕ, zero, suc, ◌+◌, ◌-◌, ◌^◌, ◌<◌, ◌≤◌}

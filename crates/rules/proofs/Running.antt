@@ -1,9 +1,9 @@
 -- The run over a plan, batch by batch, over every width. Assumes nothing.
 --
---   run_hit, run_missing                   the next batch got a word, or none
---   rolled_by                               the rolls of a run
---   after-suffices                         a run with one batch more in front suffices where it does
---   after-rolled                           and its rolls are those of that batch and then its own
+--   run_hit, run_missing    the next batch got a word, or none
+--   rolled_by               the rolls of a run
+--   after-suffices          a run with one batch more in front suffices where it does
+--   after-rolled            and its rolls are those of that batch and then its own
 use mathlib.Core.Path.{◌≡◌, refl}
 use mathlib.Core.Bool.{true}
 use mathlib.Core.List.{List, ◌∷◌, ◌++◌}

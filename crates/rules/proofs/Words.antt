@@ -1,10 +1,10 @@
 -- The run of words behind rolls, over every width L. Assumes nothing.
 --
---   words_behind_lem   the words that give the rolls, accepted, are exactly those from the first to the last
---   first-last     the first is at most the last
---   last_fits      and the last is a word
---   run_length     the run has 2^L / product words, whichever the rolls are
---   window_fits    that the last is a word, as numbers
+--   words_behind_lem    the words that give the rolls, accepted, are exactly those from the first to the last
+--   first-last          the first is at most the last
+--   last_fits           and the last is a word
+--   run_length          the run has 2^L / product words, whichever the rolls are
+--   window_fits         that the last is a word, as numbers
 use mathlib.Core.Path.{◌≡◌, ap, subst}
 use mathlib.Core.Logic.{◌↔◌}
 use mathlib.Core.List.{List}

@@ -1,8 +1,8 @@
 -- Cutting a list of bounds into batches, at a limit (2^56 at 64 bits).
 --
---   joins limit batch b       whether the bound b joins the batch that is begun
+--   joins limit batch b        whether the bound b joins the batch that is begun
 --   cut_from limit batch bs    the batches of the list bs behind a batch that is begun
---   cut limit bs              the batches of the list bs
+--   cut limit bs               the batches of the list bs
 use Rattle.std.specs.Prelude.{Bool, true, false, ◌&&◌, List, [], ◌∷◌, ◌++◌, ℕ, ◌*◌, length, leb, ltb}
 use Rattle.rules.specs.Limits.{max_batch}
 use Rattle.rules.specs.Rolls.{product}

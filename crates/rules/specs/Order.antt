@@ -1,14 +1,14 @@
 -- Orders of records, and the rolls behind an order.
 --
---   count x ys           how often x stands in ys
+--   count x ys            how often x stands in ys
 --   each_once n ys        whether each of 0 .. n - 1 stands exactly once in ys
 --   is_order ys           whether ys, of length n, holds each of 0 .. n - 1 once
 --   place_of x xs         the place of the first x in xs; the length where there is none
 --   rolls_into m xs ys    the rolls that shuffle xs into ys, an order of the same records, with m records still to place
---   AllBelow top xs      every element of xs is below top
---   Distinct xs          no record stands at two places
---   Reorders xs ys       ys is an order of the records of xs
---   Only m xs ys rs      of the rolls in range, rs and no others shuffle xs into ys, with m records still to place
+--   AllBelow top xs       every element of xs is below top
+--   Distinct xs           no record stands at two places
+--   Reorders xs ys        ys is an order of the records of xs
+--   Only m xs ys rs       of the rolls in range, rs and no others shuffle xs into ys, with m records still to place
 use Rattle.std.specs.Prelude.{◌≡◌, Bool, true, false, ◌&&◌, List, [], ◌∷◌, ℕ, zero, suc, ◌+◌, ◌<◌, T, eqb, length, get_or}
 use Rattle.rules.specs.Rolls.{in_range}
 use Rattle.rules.specs.Shuffle.{exchange, shuffle_with, shuffle_bounds}

@@ -1,29 +1,29 @@
 -- What each definition means, said once more in other words, so that a reader who misreads the one is caught by the other. Each pin
 -- stands under the words of document 01, or 02, that it is of.
 --
---   RollsPinned L bs             a word's rolls are the digits of product times word, and each series of rolls has as many words
---   TestsPinned                  what it is that some bound is 0, and that rolls are in range
---   BatchWithin limit batch      one bound; or from 2 to 16, with a product that is at most the limit
---   CannotJoin limit batch b     the batch has 16 bounds, or its product with b is above the limit
---   IsCut limit bs plan          the plan joined is bs, each batch is within, and the bound after it could not join
---   CutPinned                    the cut is such a plan, and no other is
---   RowsPinned                   m, m - 1, .. and m, m + 1, .., s of them: how many, and what stands at each place
---   BatchSize m s                with m records still to place the next batch has the bounds m, m - 1, .., s of them; then m falls by s
---   SizesPinned                  s is what document 01 says for m
---   Open m rs                    each roll is one of the places still open: m of them, then m - 1, ..
---   Exchanged a b before after   after is before with the records at places a and b exchanged
---   ShufflePinned m xs rs        each roll exchanges two records; after the first i rolls the places from m - i on are settled, and the list
---                                is an order of the same records
---   LastAt js j i                roll i is j, and no later roll is
---   Nowhere js j                 no roll is j
+--   RollsPinned L bs                 a word's rolls are the digits of product times word, and each series of rolls has as many words
+--   TestsPinned                      what it is that some bound is 0, and that rolls are in range
+--   BatchWithin limit batch          one bound; or from 2 to 16, with a product that is at most the limit
+--   CannotJoin limit batch b         the batch has 16 bounds, or its product with b is above the limit
+--   IsCut limit bs plan              the plan joined is bs, each batch is within, and the bound after it could not join
+--   CutPinned                        the cut is such a plan, and no other is
+--   RowsPinned                       m, m - 1, .. and m, m + 1, .., s of them: how many, and what stands at each place
+--   BatchSize m s                    with m records still to place the next batch has the bounds m, m - 1, .., s of them; then m falls by s
+--   SizesPinned                      s is what document 01 says for m
+--   Open m rs                        each roll is one of the places still open: m of them, then m - 1, ..
+--   Exchanged a b before after       after is before with the records at places a and b exchanged
+--   ShufflePinned m xs rs            each roll exchanges two records; after the first i rolls the places from m - i on are settled, and the list
+--                                    is an order of the same records
+--   LastAt js j i                    roll i is j, and no later roll is
+--   Nowhere js j                     no roll is j
 --   ReservoirPinned k xs js slots    slot j holds the last record whose roll was j, else record j
---   SampleBoundsPinned n k       k + 1, .., n, then k, .., 2: how many, and what stands at each place
---   SamplePinned k xs js rs      the rolls js fill the slots, and the rolls rs shuffle them: none of the k records drawn is lost
---   OnePlace x ys                x stands at one place of ys, and at no other
---   FirstPlace x xs p            place p is the first that holds x, or the length of xs where none does
---   OrderPinned                  an order has each of 0 .. n - 1 at one place, is one of the records 0, 1, .., n - 1, and has rolls behind it; the
---                                place of a record is the first that holds it
---   Pinned                       the statement: all of these
+--   SampleBoundsPinned n k           k + 1, .., n, then k, .., 2: how many, and what stands at each place
+--   SamplePinned k xs js rs          the rolls js fill the slots, and the rolls rs shuffle them: none of the k records drawn is lost
+--   OnePlace x ys                    x stands at one place of ys, and at no other
+--   FirstPlace x xs p                place p is the first that holds x, or the length of xs where none does
+--   OrderPinned                      an order has each of 0 .. n - 1 at one place, is one of the records 0, 1, .., n - 1, and has rolls behind it; the
+--                                    place of a record is the first that holds it
+--   Pinned                           the statement: all of these
 use Rattle.std.specs.Prelude.{◌≡◌, ◌↔◌, ◌≢◌, ◌⊎◌, List, [], ◌∷◌, ◌++◌, map, ℕ, ◌+◌, ◌-◌, ◌*◌, ◌/◌, ◌^◌, ◌<◌, ◌≤◌, T, length, take, drop, get_or, replicate}
 use Rattle.rules.specs.Rolls.{rolls, rest, product, accepted, holds_zero, in_range, value, first_word, last_word}
 use Rattle.rules.specs.Width.{w64}

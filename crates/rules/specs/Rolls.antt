@@ -1,14 +1,14 @@
 -- From a word to rolls, over a width L: words are the numbers below 2^L. The letters b, r, t are those of source document 000.
 --
---   rolls L bs r         the rolls that bounds bs take from r, a word at first
---   rest L bs r          the last r
---   product bs           b, the product of the bounds
---   threshold L b        t
---   accepted L bs word   whether the word is accepted
---   holds_zero bs           whether some bound is 0
---   inRange bs rs        whether rs is one roll for each bound, each below its bound
---   value bs rs          the rolls read as one mixed-radix number, the first roll most significant
---   up x b               x / b, rounded up
+--   rolls L bs r          the rolls that bounds bs take from r, a word at first
+--   rest L bs r           the last r
+--   product bs            b, the product of the bounds
+--   threshold L b         t
+--   accepted L bs word    whether the word is accepted
+--   holds_zero bs         whether some bound is 0
+--   in_range bs rs        whether rs is one roll for each bound, each below its bound
+--   value bs rs           the rolls read as one mixed-radix number, the first roll most significant
+--   up x b                x / b, rounded up
 --   first_word L bs rs    the first word of the run behind the rolls rs
 --   last_word L bs rs     the last one
 use Rattle.std.specs.Prelude.{Bool, true, false, ◌&&◌, ◌||◌, List, [], ◌∷◌, ℕ, ◌+◌, ◌-◌, ◌*◌, ◌/◌, ◌%◌, ◌^◌, leb, ltb, eqb}

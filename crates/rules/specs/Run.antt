@@ -1,16 +1,16 @@
 -- Words are taken in list order, one accepted word for each batch of a plan. Over a width L.
 --
---   Taken                    the word that a batch took, and its place in the list
---   find test words place    the first word that passes the test, found, or missing; the first word of the list stands at the place
---   Found                    what a search comes to
---   Run                      what each batch took, in order, or the number of the first batch, from 0, that got no word
---   run L plan words start   the run of the words over the plan, a list of batches, from the start on
+--   Taken                     the word that a batch took, and its place in the list
+--   find test words place     the first word that passes the test, found, or missing; the first word of the list stands at the place
+--   Found                     what a search comes to
+--   Run                       what each batch took, in order, or the number of the first batch, from 0, that got no word
+--   run L plan words start    the run of the words over the plan, a list of batches, from the start on
 --   run_from, after           the batches that are left; what one batch took, in front of what the later ones did
---   suffices ran             whether the words suffice: each batch got its word
---   trace ran                what each batch took
+--   suffices ran              whether the words suffice: each batch got its word
+--   trace ran                 what each batch took
 --   rolls_of L plan trace     the rolls of the whole plan, batch after batch
---   next start trace         the place after the last word used; the start where none was
---   rejected start trace     how many words were rejected: those before each taken word, back to the one taken before
+--   next start trace          the place after the last word used; the start where none was
+--   rejected start trace      how many words were rejected: those before each taken word, back to the one taken before
 use Rattle.std.specs.Prelude.{Bool, true, false, List, [], ◌∷◌, ◌++◌, ℕ, ◌+◌, ◌-◌, drop}
 use Rattle.rules.specs.Rolls.{rolls, accepted}
 

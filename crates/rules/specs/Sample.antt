@@ -2,7 +2,7 @@
 --
 --   sample_bounds n k      the bounds of a sample of k from n records: k + 1, .., n, then k, k - 1, .., 2
 --   sample_with k rs xs    k of the records xs in a drawn order: the reservoir by the first n - k of the rolls rs, then its slots shuffled by the
---                         others
+--                          others
 use Rattle.std.specs.Prelude.{List, ◌++◌, ℕ, ◌+◌, ◌-◌, length, take, drop}
 use Rattle.rules.specs.Reservoir.{countup, reservoir}
 use Rattle.rules.specs.Shuffle.{shuffle_with, shuffle_bounds}

@@ -1,11 +1,11 @@
 -- The shuffle: Fisher-Yates with given rolls, and its batches. The letters m, n, s are those of document 01.
 --
---   exchange xs i j        xs with the records at places i and j exchanged
+--   exchange xs i j         xs with the records at places i and j exchanged
 --   shuffle_with m rs xs    xs shuffled by the rolls rs, with m records still to place
---   countdown s m          m, m - 1, .., s of them
+--   countdown s m           m, m - 1, .., s of them
 --   shuffle_bounds n        the bounds of a whole shuffle: n, n - 1, .., 2
 --   shuffle_plan size n     its batches; with m records still to place the next one has size m bounds
---   shuffle_plan_from        the batches with m records still to place, at most as many as the fuel
+--   shuffle_plan_from       the batches with m records still to place, at most as many as the fuel
 use Rattle.std.specs.Prelude.{true, false, List, [], ◌∷◌, ℕ, zero, suc, ◌-◌, leb, get_or, set}
 
 unfoldable pub exchange : List ℕ → ℕ → ℕ → List ℕ

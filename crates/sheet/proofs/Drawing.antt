@@ -1,13 +1,13 @@
 -- A sheet that was read into two lists, with room for the most that a sheet holds, and then sampled. Assumes nothing.
 --
---   Held, held       the sheet was read: nothing of it refuses, and the lists hold its words and records in front
---   not_held         it was not: whatever is done with it is refused as the reading was
---   drawn_unread     so its draw
---   held_size        a sheet that was read has at most 16,377 records, and its k is from 1 to as many
+--   Held, held                                            the sheet was read: nothing of it refuses, and the lists hold its words and records in front
+--   not_held                                              it was not: whatever is done with it is refused as the reading was
+--   drawn_unread                                          so its draw
+--   held_size                                             a sheet that was read has at most 16,377 records, and its k is from 1 to as many
 --   words_fit, words_count, records_fit, records_count    the lists are long enough for what was read into them
---   words_front, records_front    what was read stands in front of them
---   drawn_refused    what the caller sees of a sample that was refused
---   drawn_done       what the caller sees of a sample that was done
+--   words_front, records_front                            what was read stands in front of them
+--   drawn_refused                                         what the caller sees of a sample that was refused
+--   drawn_done                                            what the caller sees of a sample that was done
 use mathlib.Core.Path.{◌≡◌, refl, sym, ap, ◌∙◌}
 use mathlib.Core.Bool.{Bool, true, false}
 use mathlib.Core.List.{List, [], ◌∷◌, ◌++◌}

@@ -1,12 +1,12 @@
 -- Reading a draw sheet: its refusals in their order, what it holds, and what its caller sees. Whether the words suffice for a draw is not
 -- looked at.
 --
---   unreadable s                          numbers 1 and 3, which any operation on a sheet can meet before all others
+--   unreadable s                           numbers 1 and 3, which any operation on a sheet can meet before all others
 --   read_refusals s wordRoom recordRoom    the numbers that reading can meet, each with its test
 --   drawn_by s next rejected               the answer of an operation on a sheet: where its words end, how many it rejected, and the six numbers
 --   shown_drawn s outcome                  the answer that the caller gets
 --   seen_read s words records              what its caller sees: the answer, and the two lent lists as they are left, of words and of records;
---                                         the contract of the code is the equation with this
+--                                          the contract of the code is the equation with this
 use Rattle.std.specs.Prelude.{not, ◌||◌, List, [], ◌∷◌, ◌++◌, ℕ, ltb, length}
 use Rattle.rules.specs.Run.{next, rejected}
 use Rattle.answers.specs.Outcome.{Outcome, refused, done, Refusal, no, decide, left}

@@ -1,8 +1,8 @@
 -- Running a draw sheet: reading it, and then the sample from start 0 of what it holds; and what its caller sees.
 --
---   sheet_refusals W s room     the numbers that it can meet, in the order of document 01, each with its test
---   run_sheet W s room          what comes of it: the draw of the sheet s, with room for so many records
---   seen_sheet W s lent         what its caller sees: the answer, and the lent list of slots as it is left; the contract of the code is the
+--   sheet_refusals W s room    the numbers that it can meet, in the order of document 01, each with its test
+--   run_sheet W s room         what comes of it: the draw of the sheet s, with room for so many records
+--   seen_sheet W s lent        what its caller sees: the answer, and the lent list of slots as it is left; the contract of the code is the
 --                              equation with this
 use Rattle.std.specs.Prelude.{List, [], ◌∷◌, ◌++◌, ℕ, ltb, length}
 use Rattle.rules.specs.Run.{run}

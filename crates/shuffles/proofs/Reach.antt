@@ -1,10 +1,10 @@
 -- Which words shuffle the records into which order: from the one series of rolls behind an order, and the run of words behind each
 -- batch's rolls. Over a width. Assumes nothing.
 --
---   DoneWith values outcome    not refused, and these are the values
---   shuffle_run, shuffle_rolls   the run of a shuffle, and its rolls
---   shuffle-gives              a shuffle gives an order exactly when each batch got its word and the rolls give the order
---   shuffle_in_runs            one word for each batch: the shuffle gives the order exactly when each word lies in its batch's run
+--   DoneWith values outcome       not refused, and these are the values
+--   shuffle_run, shuffle_rolls    the run of a shuffle, and its rolls
+--   shuffle-gives                 a shuffle gives an order exactly when each batch got its word and the rolls give the order
+--   shuffle_in_runs               one word for each batch: the shuffle gives the order exactly when each word lies in its batch's run
 use mathlib.Core.Path.{◌≡◌, ap, ◌∙◌}
 use mathlib.Core.Logic.{◌↔◌}
 use mathlib.Core.List.{List, [], ◌∷◌}

@@ -1,12 +1,12 @@
 -- The batches of a shuffle as the code has them, and the records placed batch by batch. Assumes nothing.
 --
 --   plan_of W                         the batches of a shuffle
---   batch_less, batch_fits           the batch with m records still to place: its size, its product
---   batch_plan, batch_find           the plan goes on behind it; the search for its word
---   Shuffling                        with m records still to place: the list as it stands, and the rest of the run
---   shuffling_none, shuffling_turn   before the first turn, and one turn
---   shuffling_never                  no word is missing
---   shuffling_done                   with one record or none still to place the list is shuffled
+--   batch_less, batch_fits            the batch with m records still to place: its size, its product
+--   batch_plan, batch_find            the plan goes on behind it; the search for its word
+--   Shuffling                         with m records still to place: the list as it stands, and the rest of the run
+--   shuffling_none, shuffling_turn    before the first turn, and one turn
+--   shuffling_never                   no word is missing
+--   shuffling_done                    with one record or none still to place the list is shuffled
 use mathlib.Core.Path.{◌≡◌, refl, sym, ap, ap₂, ◌∙◌}
 use mathlib.Core.Bool.{true}
 use mathlib.Core.List.{List, ◌∷◌}

@@ -1,9 +1,9 @@
 -- The shuffle: its refusals in the order of document 01, its plan, its reading, and what its caller sees.
 --
 --   shuffle_refusals W words start n    the numbers that it can meet, each with its test
---   shuffle W words start xs           what comes of it: the records xs in a drawn order
+--   shuffle W words start xs            what comes of it: the records xs in a drawn order
 --   seen_shuffle W words start xs       what its caller sees: the answer, and the lent list of records as it is left; the contract of the
---                                      code is the equation with this
+--                                       code is the equation with this
 use Rattle.std.specs.Prelude.{List, ◌∷◌, ℕ, length}
 use Rattle.rules.specs.Limits.{max_records}
 use Rattle.rules.specs.Shuffle.{shuffle_with, shuffle_plan}

@@ -1,21 +1,21 @@
 -- Bytes put into a lent list one after the other: a text, a number, the fields of a line. Assumes nothing.
 --
---   decimal_one      a number below 10 is one digit
---   decimal-more     a number from 10 on is its tenth and one digit more
---   decimal_longer   so that it has one digit more than its tenth
---   digit-count      how many digits a number has at most
---   pasted           a text that is pasted whole is put
---   spelled-room     there is room for a number below 10, where there is for its digits
---   spelled_one      a number below 10 is spelled by one digit
---   spelled-more     a number from 10 on is spelled by the digits of its tenth, and one more behind them
---   blank_first      a blank, and bytes behind it
---   SoFar            bytes, as far as they are written, and those that are left
---   none_yet         nothing is written
+--   decimal_one                a number below 10 is one digit
+--   decimal-more               a number from 10 on is its tenth and one digit more
+--   decimal_longer             so that it has one digit more than its tenth
+--   digit-count                how many digits a number has at most
+--   pasted                     a text that is pasted whole is put
+--   spelled-room               there is room for a number below 10, where there is for its digits
+--   spelled_one                a number below 10 is spelled by one digit
+--   spelled-more               a number from 10 on is spelled by the digits of its tenth, and one more behind them
+--   blank_first                a blank, and bytes behind it
+--   SoFar                      bytes, as far as they are written, and those that are left
+--   none_yet                   nothing is written
 --   next-room, next-written    there is room for the next bytes of those that are left; they are written
 --   last-room, all-written     there is room for the last bytes; they are written
---   none_left        nothing is left
---   same_left        what is left, in other words
---   same_list        the list is as long as it was
+--   none_left                  nothing is left
+--   same_left                  what is left, in other words
+--   same_list                  the list is as long as it was
 use mathlib.Core.Path.{◌≡◌, refl, sym, ap, ap₂, ◌∙◌}
 use mathlib.Core.Bool.{Bool, true, false}
 use mathlib.Core.List.{List, [], ◌∷◌, ◌++◌, append_assoc, append-nil}

@@ -1,12 +1,12 @@
 -- What is read from a written sheet, whatever stands behind it. Assumes nothing.
 --
---   length-written    the bytes of a written sheet
---   Fitting           words, records, k and w that a writer accepts, each as large as its bytes can hold
+--   length-written                        the bytes of a written sheet
+--   Fitting                               words, records, k and w that a writer accepts, each as large as its bytes can hold
 --   laid_six, laid_words, laid_records    where its six numbers, its words and its records stand
---   written-numbers   its six numbers
---   written_words, written_records    its words and its records
---   written_sound     it is sound
---   written_known     bytes in which all this stands are the written sheet
+--   written-numbers                       its six numbers
+--   written_words, written_records        its words and its records
+--   written_sound                         it is sound
+--   written_known                         bytes in which all this stands are the written sheet
 use mathlib.Core.Path.{◌≡◌, refl, sym, ap, ap₂, subst, ◌∙◌}
 use mathlib.Core.List.{List, [], ◌++◌, append_assoc}
 use Prim.Native.Nat.{ℕ, zero, suc, ◌+◌, ◌*◌, ◌^◌, ◌<◌, ◌≤◌}

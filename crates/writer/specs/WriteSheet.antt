@@ -1,13 +1,13 @@
 -- Writing a draw sheet: its refusals in the order of document 02, the bytes that are written, and what its caller sees.
 --
 --   length_of ws xs                  how many bytes a sheet of these words and records has, with no gap
---   header m n k w                  the six numbers of a sheet of m words and n records
---   written ws xs k w               the sheet: six numbers, the words at 24, the records straight after
+--   header m n k w                   the six numbers of a sheet of m words and n records
+--   written ws xs k w                the sheet: six numbers, the words at 24, the records straight after
 --   write_refusals ws xs k w room    the numbers that writing can meet, each with its test
 --   write_sheet ws xs k w room       what comes of it, with room for so many bytes
 --   shown_written outcome            the answer that the caller gets
 --   seen_write ws xs k w lent        what its caller sees: the answer, and the lent list of bytes as it is left; the contract of the code is
---                                   the equation with this
+--                                    the equation with this
 use Rattle.std.specs.Prelude.{List, [], ◌∷◌, ◌++◌, ℕ, ◌+◌, ◌*◌, ltb, length}
 use Rattle.answers.specs.Outcome.{Outcome, refused, done, Refusal, no, decide, left}
 use Rattle.areas.specs.Area.{area}
