@@ -8,7 +8,7 @@
 --   firsts_give     with these words each batch gets its word, and the rolls are the given ones
 use mathlib.Core.Path.{◌≡◌, refl, ap}
 use mathlib.Core.List.{List, [], ◌∷◌}
-use Prim.Native.Nat.{ℕ, zero, suc, ◌^◌, ◌<◌, ◌≤◌}
+use Prim.Native.Nat.{ℕ, zero, suc, ◌^◌}
 use native.Mathlib.Nat.{le_refl, lt_of_le_of_lt, not-suc-le-zero, le_of_suc-le-suc}
 use lib.Dec.{T}
 use lib.ListN.{length, take, drop}

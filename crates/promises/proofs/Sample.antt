@@ -25,7 +25,7 @@ use Rattle.rules.proofs.Facts.{or_right}
 use Rattle.rules.proofs.Samples.{row_distinct, length_drawn, sample-plan}
 use Rattle.rules.proofs.ShufflePlans.{sizes_more}
 use Rattle.rules.proofs.Widths.{GoodWidth, good64}
-use Rattle.answers.specs.Outcome.{done, no, decide, outside, shown}
+use Rattle.answers.specs.Outcome.{decide, outside, shown}
 use Rattle.answers.specs.declared.answer.Answer.{Answer}
 use Rattle.draws.specs.Sample.{sample_plan, sample_refusals, sample, seen_sample}
 use Rattle.promises.specs.Demand1.{Callable, first_of}

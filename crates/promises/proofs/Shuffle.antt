@@ -28,7 +28,7 @@ use Rattle.answers.specs.declared.answer.Answer.{Answer}
 use Rattle.shuffles.specs.Shuffle.{shuffle_refusals, shuffle, seen_shuffle}
 use Rattle.promises.specs.Demand1.{Callable, first_of}
 use Rattle.promises.specs.Demand2.{Allowed, ByMethod}
-use Rattle.promises.specs.Shuffle.{Op, Numbers, Demand1, Demand2, Bounds, Settled, StandIns, Promise, BatchNamed}
+use Rattle.promises.specs.Shuffle.{Op, Numbers, Demand1, Demand2, Settled, StandIns, Promise, BatchNamed}
 use Rattle.promises.proofs.Calls.{below_nil, word_0, word_half, words_01, words_10, words_11}
 use Rattle.promises.proofs.Method.{by_method, same_seen}
 use Rattle.promises.proofs.Which.{differ}

@@ -6,10 +6,10 @@
 --   promise          the promise
 use mathlib.Core.Path.{◌≡◌, refl, sym, ap, ap₂, subst, ◌∙◌}
 use mathlib.Core.List.{List, [], ◌∷◌, ◌++◌}
-use Prim.Native.Nat.{ℕ, ◌+◌}
+use Prim.Native.Nat.{ℕ}
 use native.Mathlib.Omega.{arith}
 use lib.Dec.{lit<}
-use lib.ListN.{length, take, drop, get_or, replicate, take-append-drop}
+use lib.ListN.{length, drop, get_or, replicate, take-append-drop}
 use lib.Seq.{drop_at}
 use borrow.Author.Tests.{ltb-false}
 use Rattle.answers.specs.Outcome.{Outcome, done, left}
