@@ -6,8 +6,7 @@
 .PHONY: draw test bench picture
 
 draw:
-	@mkdir -p target
-	@rt check draw_sheet > target/draw.log 2>&1 || { tail -n 20 target/draw.log; exit 1; }
+	@sh .ci/build.sh program
 	@sh .ci/x86_64.sh target/bin/draw_sheet < crates/draw_sheet/stdin
 
 test:
@@ -17,7 +16,7 @@ test:
 ALIGN = objcopy --set-section-alignment '.text.*=64'
 
 bench:
-	rt staticlib hildrasp
+	sh .ci/build.sh library
 	mkdir -p target/bench
 	$(ALIGN) target/staticlib/libhildrasp.a target/bench/libhildrasp.a
 ifdef BEFORE
@@ -27,5 +26,5 @@ endif
 	cd rust && HILDRASP_ARCHIVE=../target/bench cargo run --release --offline --bin bench -- $(if $(BEFORE),../target/bench/before.so)
 
 picture:
-	rt staticlib hildrasp
+	sh .ci/build.sh library
 	. .ci/target.sh && cd rust && cargo run --quiet --release --offline --bin picture > ../docs/four_bits.svg
