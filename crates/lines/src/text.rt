@@ -91,7 +91,8 @@ pub fn write_output(sheet: &[u8], out: &mut [u8]) -> usize
 {
     let mut slots = [0u32; SLOTS];
     let drawn = run_sheet(sheet, &mut slots);
-    let at = first_line(drawn, out);
     let k = drawn.k as usize;
-    write_slots(&slots[..k], drawn.w, out, at)
+    let w = drawn.w;
+    let at = first_line(drawn, out);
+    write_slots(&slots[..k], w, out, at)
 }
