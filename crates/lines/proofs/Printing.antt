@@ -9,6 +9,8 @@
 --   slots_none       past the last slot there is none
 --   told-written     the first line and those of the slots behind it are all that is told of a draw
 --   output-told      what is told of the draw of a sheet is the output
+--   text_within      a text at the front of a list is within it
+--   text_count       a text at the front of a list is as long as the part that it takes of it
 use mathlib.Core.Path.{◌≡◌, sym, ap, ap₂, ◌∙◌}
 use mathlib.Core.Bool.{Bool, true, false}
 use mathlib.Core.List.{List, [], ◌∷◌, ◌++◌}
@@ -104,3 +106,12 @@ pub output-told : (s z : List ℕ) (d : Drawn) (slots : List ℕ) → z ≡ repl
     → d ≡ shown_drawn s (run_sheet w64 s (length z)) → slots ≡ left z (run_sheet w64 s (length z)) → told d slots ≡ output s
 unfolding output
 output-told s z d slots e n f g = ap₂ told f g ∙ ap₂ (told_of s) e n
+
+-- ---- the output at the front of a list
+
+module _ (text rest : List ℕ) {out : List ℕ} {r : ℕ} (n : r ≡ length text) (e : out ≡ text ++ rest) where
+  pub text_within : r ≤ length out
+  text_within = rw e (rw length-append (omega arith))
+
+  pub text_count : r ≡ length (take r out)
+  text_count = sym (length-take-le r out text_within)
