@@ -18,7 +18,7 @@ build() { # CRATE LOG COMMAND..
 for what in ${*:-library program}; do
     case $what in
         library) build hildrasp library.log rt lib && cp crates/hildrasp/out/libhildrasp.a target/staticlib/ ;;
-        program) build draw_sheet draw.log rt run && cp crates/draw_sheet/out/draw_sheet target/bin/ ;;
+        program) build draw_sheet draw.log sh -c 'rt run <stdin' && cp crates/draw_sheet/out/draw_sheet target/bin/ ;;
         *) echo "no such thing to build: $what" >&2 && exit 1 ;;
     esac || exit 1
 done
