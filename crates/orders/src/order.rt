@@ -50,9 +50,9 @@ fn write_countdown(n: usize, rolls: &mut [u64])
 // counted from 1. With m records still to place, those at places m - 1, .., 1 stand in the lent list, behind the rolls written so far.
 // The record at place 0 is never read, and is kept nowhere.
 fn write_behind(order: &[u32], marks: &mut [u32], rolls: &mut [u64])
-    requires order_len_bound { (length order.now ≤ 16384) × (length marks.old ≡ 16384) × (length order.now ≤ length rolls.old + 1) × (is_order order.now ≡ true) }
-    requires by_index { (v : ℕ) → v < length order.now → get_or marks.old v 0 ≡ v + 1 }
-    requires rolls_value { take (length order.now - 1) rolls.old ≡ countdown (length order.now - 1) (length order.now - 1) }
+    requires order_and_room { (length order.now ≤ 16384) × (length marks.old ≡ 16384) × (length order.now ≤ length rolls.old + 1) × (is_order order.now ≡ true) }
+    requires marked { (v : ℕ) → v < length order.now → get_or marks.old v 0 ≡ v + 1 }
+    requires counted_down { take (length order.now - 1) rolls.old ≡ countdown (length order.now - 1) (length order.now - 1) }
     ensures { rolls.new ≡ rolls_into (length order.now) (countup (length order.now) 0) order.now ++ drop (length order.now - 1) rolls.old }
 {
     let n = order.len();

@@ -70,7 +70,7 @@ settled W a b a1 a2 b1 b2 words start bs w c =
     (a words start bs) (b words start bs) (a1 words start bs w c) (b1 words start bs w c) (λ al.
     same-rolled W words start bs w (allowed_batch W bs _ al).0 _ _ (a2 words start bs w c al) (b2 words start bs w c al))
 
--- ---- the stand_ins
+-- ---- the stand-ins
 
 -- on a call that is not refused, an operation that meets demand 2 answers as ours
 agrees : (W : Width) (op : Op) → Demand2 W op → (words : List ℕ) (start : ℕ) (bs : List ℕ) → Callable W.bits words → Callable W.bits bs

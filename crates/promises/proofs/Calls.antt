@@ -3,7 +3,7 @@
 --   below_nil, below_cons                              no number, and one number more
 --   one_number                                         a list of one number
 --   all_below, all_below_lem                           a test of a whole list
---   word_0, word_half, words_01, words_10, words_11    the words of the calls on which the stand_ins are tried
+--   word_0, word_half, words_01, words_10, words_11    the words of the calls on which the stand-ins are tried
 use mathlib.Core.Bool.{Bool, true, ◌&&◌}
 use mathlib.Core.List.{List, [], ◌∷◌}
 use Prim.Native.Nat.{ℕ, zero, suc, ◌^◌, ◌<◌}
@@ -34,7 +34,7 @@ all_below_lem top (x ∷ xs) t =
     let (h, b) = (both (ltb x top) (all_below top xs)).0 t in
     below_cons x xs (ltb→lt x top h) (all_below_lem top xs b)
 
--- ---- the words that stand_ins are tried on, at 64 bits
+-- ---- the words that stand-ins are tried on, at 64 bits
 
 pub word_0 : Callable 64 (0 ∷ [])
 word_0 = one_number 0 (lit< tt)

@@ -2,7 +2,7 @@
 -- then rolls that exchange each record with itself. Two series never give one order, so from two batches on it goes wrong. Assumes nothing.
 --
 --   mixed s n     s rolls of 0, and then the rolls that exchange each record with itself
---   stand_ins3    the stand_ins of demand 3
+--   stand_ins3    the stand-ins of demand 3
 use mathlib.Core.Path.{◌≡◌, refl, sym, ap, ◌∙◌, subst}
 use mathlib.Core.Bool.{Bool, true, false}
 use mathlib.Core.List.{List, [], ◌∷◌}
@@ -168,7 +168,7 @@ module _ (op : Op) (f : FirstBatchOnly w64 op) where
     λ (z, g). (same_number words xs w ∙ z, same_list words xs (rw e h) w z ∙ g),
   ))
 
--- ---- the stand_ins
+-- ---- the stand-ins
 
 -- two records, word 0: exchanged
 moves_nothing : (op : Op) → MovesNothing op → Demand3 w64 op (seen_behind w64) seen_order → ⊥

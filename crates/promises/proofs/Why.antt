@@ -221,7 +221,7 @@ settled a b a1 a2 b1 b2 s place bytes =
     settle (why_refusals w64 s place) (shown_why (numbers s).records (numbers s).k place) (λ (x : Reason). x.no) (numbered s place)
     (a s place) (b s place) (a1 s place bytes) (b1 s place bytes) (λ al. one_answer s place al bytes _ _ (a2 s place bytes al) (b2 s place bytes al))
 
--- ---- stand_ins
+-- ---- stand-ins
 
 -- two records alike, k = 1 and one word
 twins : ℕ → List ℕ

@@ -1,4 +1,4 @@
--- One batch: demands 1 and 2 of it, that they settle its answer, and its stand_ins.
+-- One batch: demands 1 and 2 of it, that they settle its answer, and its stand-ins.
 --
 --   Op                                  the operation as its caller observes it: words, start, bounds
 --   Numbers W                           the numbers that it can meet, as document 01 lists them

@@ -1,4 +1,4 @@
--- Demand 3 and the stand_ins that document 01 names for it: "a shuffle that moves nothing (demands 2 and 3); one that works the first batch
+-- Demand 3 and the stand-ins that document 01 names for it: "a shuffle that moves nothing (demands 2 and 3); one that works the first batch
 -- only (demand 2, and 3 from n = 8)". Demand 3 names its runs by the two ways back, which are ours here.
 --
 --   StandIns3      each fails; the shuffle of the first batch alone meets the demand up to 7 records, which are one batch, at 64 bits; and

@@ -1,4 +1,4 @@
--- A list of bounds: demands 1 and 2 of it, that they settle its answer and the lent list, and its stand_ins.
+-- A list of bounds: demands 1 and 2 of it, that they settle its answer and the lent list, and its stand-ins.
 --
 --   Op                                        the operation as its caller observes it: words, start, bounds, the lent list of rolls
 --   Numbers W                                 the numbers that it can meet, as document 01 lists them

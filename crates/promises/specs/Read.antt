@@ -1,4 +1,4 @@
--- Reading a draw sheet: demands 1 and 2 of it, that they settle its answer and both lent lists, and its stand_ins. No width plays a part.
+-- Reading a draw sheet: demands 1 and 2 of it, that they settle its answer and both lent lists, and its stand-ins. No width plays a part.
 --
 -- Document 02, M-100: "reading it, whether or not its words suffice for the draw, gives back the same six numbers and areas [..] A sound
 -- sheet with gaps is read as before".

@@ -1,4 +1,4 @@
--- The sample: demands 1 and 2 of it, that they settle its answer and the lent list, its stand_ins, and that every record can come up in every slot.
+-- The sample: demands 1 and 2 of it, that they settle its answer and the lent list, its stand-ins, and that every record can come up in every slot.
 --
 -- The letter: "The regulator asked us three things about that draw. Could this junction's links have come up?" And of the program before
 -- this one: "When its word list ended early it kept the picks it had, so links late in the register could not come up."

@@ -1,4 +1,4 @@
--- The shuffle: demands 1 and 2 of it, that they settle its answer and the lent list, and its stand_ins. Demand 3 has a file of its own.
+-- The shuffle: demands 1 and 2 of it, that they settle its answer and the lent list, and its stand-ins. Demand 3 has a file of its own.
 --
 --   Op                                     the operation as its caller observes it: words, start, the lent list of records
 --   Numbers W                              the numbers that it can meet, as document 01 lists them

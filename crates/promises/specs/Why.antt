@@ -1,4 +1,4 @@
--- Why a place was drawn or not: demands 1 and 2 of it, that they settle its answer, its stand_ins, and a statement for each further sentence
+-- Why a place was drawn or not: demands 1 and 2 of it, that they settle its answer, its stand-ins, and a statement for each further sentence
 -- of document 02, M-101: "For a sheet and a record's place, tell the true reason". M-102: "M-101's first two reasons add the final slot."
 --
 --   Op                                     the operation as its caller observes it: the sheet's bytes, the place

@@ -1,4 +1,4 @@
--- Writing a draw sheet: demands 1 and 2 of it, that they settle its answer and the lent list, and its stand_ins. No width plays a part.
+-- Writing a draw sheet: demands 1 and 2 of it, that they settle its answer and the lent list, and its stand-ins. No width plays a part.
 --
 -- Document 02, M-100: "from words, records, k and w into a lent byte list, words at 24, records straight after, bytes past the sheet
 -- untouched. [..] Refusals: 2 if the sheet would pass 65,535 bytes, 3 as on a sheet, 6 if it doesn't fit the list."

@@ -10,7 +10,7 @@ use Rattle.orders.proofs.order.write_behind.Goals as goal
 use Rattle.orders.proofs.order.write_behind.Goals.{then-r-gt0, else-r-gt0}
 
 pub loop-m-init : goal.loop-m-init
-loop-m-init c = (refl, invert_start _ _ _ c.requires.order_len_bound.3 c.requires.order_len_bound.2 c.requires.by_index c.requires.rolls_value)
+loop-m-init c = (refl, invert_start _ _ _ c.requires.order_and_room.3 c.requires.order_and_room.2 c.requires.marked c.requires.counted_down)
 
 pub overflow_cast-r : goal.overflow_cast-r
 overflow_cast-r c = let k = invert_look c.loop-m.invariant.1 c.loop-m-test.true in omega arith
