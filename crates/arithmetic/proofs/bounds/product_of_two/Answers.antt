@@ -1,5 +1,5 @@
 -- `arithmetic::bounds::product_of_two` meets its contract: the halves tell where the product lies. Assumes nothing.
-use Rattle.std.proofs.Common.{◌*◌, ⊎_elim}
+use Rattle.std.proofs.Common.{◌*◌, arith}
 use Rattle.arithmetic.proofs.Limits.{is_below, is_whole, is_above}
 use Rattle.arithmetic.proofs.bounds.product_of_two.Goals as goal
 
@@ -9,9 +9,9 @@ returns-then-high-eq0 c = let a = c.args in
 
 pub returns-then-low-eq0 : goal.returns-then-low-eq0
 returns-then-low-eq0 c = let a = c.args in
-    is_whole (a.p * a.b) _ _ c.high-high.ensures c.low-low.ensures c.if-high-eq1.true c.if-low-eq0.true
+    is_whole (a.p * a.b) _ _ c.high-high.ensures c.low-low.ensures (omega arith) (omega arith)
 
 pub returns : goal.returns
 returns c = let a = c.args in
-    is_above (a.p * a.b) _ _ c.high-high.ensures c.low-low.ensures c.if-high-eq0.false
-    (λ e f. ⊎_elim (λ w. w.1 f) (λ w. w e) c.else-high-eq1.either)
+    let above = is_above (a.p * a.b) c.high-high.result c.low-low.result c.high-high.ensures c.low-low.ensures in
+    grind (arith, above)
