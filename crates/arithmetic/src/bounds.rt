@@ -15,6 +15,7 @@ pub enum Product {
 }
 
 // Whether some bound is 0.
+#[tactic(auto, using(rules::proofs::Products::zero_here))]
 pub fn has_zero(bounds: &[u64]) -> bool
     ensures { result ≡ holds_zero bounds.now }
 {
@@ -36,6 +37,7 @@ pub fn within(p: u64, b: u64, limit: u64) -> bool
 }
 
 // p * b, held against 2^64: with high half 0 it is the low half; with high half 1 and low half 0 it is 2^64 itself; else it is above.
+#[tactic(auto, using(crate::proofs::Limits::is_below, crate::proofs::Limits::is_whole, crate::proofs::Limits::is_above))]
 fn product_of_two(p: u64, b: u64) -> Product
     ensures { result ≡ against (p * b) }
 {

@@ -5,10 +5,11 @@
 --   Cutting, cut-first, cut-turn          the loop that finds the end of a batch
 --   cut_list_ends, cut_full, cut-passes   the batch ends where the list does, or it has sixteen bounds, or its product passes the limit
 --   cut_found                             what is answered then
+--   cut_filled                            the batch of sixteen bounds at 64 bits
 use mathlib.Core.Path.{◌≡◌, refl, sym, ap, ap₂, ◌∙◌, subst}
 use mathlib.Core.Bool.{Bool, true, false, ◌&&◌, and-false}
 use mathlib.Core.List.{List, [], ◌∷◌, ◌++◌, append-nil}
-use Prim.Native.Nat.{ℕ, suc, ◌+◌, ◌-◌, ◌*◌, ◌<◌, ◌≤◌}
+use Prim.Native.Nat.{ℕ, suc, ◌+◌, ◌-◌, ◌*◌, ◌^◌, ◌<◌, ◌≤◌}
 use native.Mathlib.Nat.{mul-one, not-suc-le-zero}
 use native.Mathlib.Omega.{arith}
 use lib.Dec.{leb, ltb}
@@ -157,3 +158,14 @@ module _ (limit : ℕ) (bs : List ℕ) (at p end : ℕ) (v : Cutting limit bs at
 pub cut_found : (W : Width) (bs : List ℕ) (at p end : ℕ) → Cutting W.limit bs at p end → part bs at end ≡ begins (cut W.limit (drop at bs))
     → record { end = end; product = p } ≡ cut_at W bs at
 cut_found W bs at p end v e = let f = cut_end W.limit bs at p end v e in λ i. record { end = f.0 i; product = f.1 i }
+
+-- a batch of sixteen bounds at 64 bits, where the code stops
+pub cut_filled : (bs : List ℕ) (at end : ℕ) → at < end → end < length bs → 16 ≤ end - at
+    → cut_from (2 ^ 56) (part bs at end) (drop end bs) ≡ cut (2 ^ 56) (drop at bs)
+    → (part bs at end ≡ begins (cut (2 ^ 56) (drop at bs))) × (length (part bs at end) ≡ end - at)
+cut_filled bs at end h k f e =
+    let n : length (part bs at end) ≡ end - at = length_part bs at end (omega arith) in
+    let j : joins (2 ^ 56) (part bs at end) (get_or bs end 0) ≡ false
+    = ap (λ (t : Bool). t && leb (product (part bs at end) * get_or bs end 0) (2 ^ 56)) (le-ltb (length (part bs at end)) 16 (rw n f)) in
+    let g = ap (cut_from (2 ^ 56) (part bs at end)) (drop-next bs end k) ∙ cut_here (2 ^ 56) (part bs at end) (get_or bs end 0) (drop (end + 1) bs) j in
+    (ap begins (sym g ∙ e), n)

@@ -1,8 +1,8 @@
 -- A list of bounds, refusal by refusal. Assumes nothing.
 --
---   list_count, list_zero, list_room   numbers 2, 4 and 6
---   list_start, list_short             numbers 9 and 10
---   list_done                          done, where none of them applies
+--   list_count, list_many, list_zero, list_room    numbers 2 (by its test, and by the count), 4 and 6
+--   list_start, list_short                         numbers 9 and 10
+--   list_done                                      done, where none of them applies
 use mathlib.Core.Path.{◌≡◌, ◌∙◌}
 use mathlib.Core.Bool.{true, false}
 use mathlib.Core.List.{List}
@@ -18,12 +18,15 @@ use Rattle.answers.specs.Outcome.{refused, decide, outside, of_words, from_run}
 use Rattle.lists.specs.List.{roll_list}
 use Rattle.answers.specs.Supplied.{supplied}
 use Rattle.answers.specs.declared.supply.Supply.TheVariants.{Enough, Short}
-use Rattle.answers.proofs.Deciding.{decide_here, decide_past, no_start, words_short, words_drawn}
+use Rattle.answers.proofs.Deciding.{above_count, decide_here, decide_past, no_start, words_short, words_drawn}
 
 module _ (W : Width) (words : List ℕ) (start : ℕ) (bs : List ℕ) (room : ℕ) where
   pub list_count : outside 0 max_bounds (length bs) ≡ true → roll_list W words start bs room ≡ refused 2 0
   unfolding roll_list
   list_count e = decide_here _ _ _ e
+
+  pub list_many : max_bounds < length bs → roll_list W words start bs room ≡ refused 2 0
+  list_many h = list_count (above_count 0 max_bounds (length bs) h)
 
   module _ (count : outside 0 max_bounds (length bs) ≡ false) where
     pub list_zero : holds_zero bs ≡ true → roll_list W words start bs room ≡ refused 4 0

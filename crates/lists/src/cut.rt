@@ -18,6 +18,7 @@ pub struct Cut {
 
 // The batch that begins at a place of the list: it takes the next bound whatever it is, and further bounds in order while the
 // batch has fewer than 16 and its product with the new bound is at most 2^56.
+#[tactic(auto, using(crate::proofs::Cutting::cut_filled))]
 pub fn cut_at(bounds: &[u64], at: usize) -> Cut
     requires { at < length bounds.now }
     ensures { result ≡ cut_at w64 bounds.now at }

@@ -54,6 +54,7 @@ pub fn write_list(words: &[u64], start: usize, bounds: &[u64], rolls: &mut [u64]
 // of a product for each bound that may join, a remainder for each batch and a multiplication for each word looked at; the two
 // halves of a product for each roll. With bounds 2, 6 and words 0, 1 the rolls are 0, 0, next is 2 and one word is rejected. While
 // the rules stand the same input has the same answer.
+#[tactic(auto, using(crate::proofs::OneList::list_many))]
 pub fn roll_list(words: &[u64], start: usize, bounds: &[u64], rolls: &mut [u64]) -> Answer
     ensures answer { result ≡ (seen_list w64 words.now start bounds.now rolls.old).0 }
     ensures rolls { rolls.new ≡ (seen_list w64 words.now start bounds.now rolls.old).1 }

@@ -1,7 +1,7 @@
 -- The bounds of one batch, as the code looks at them. Assumes nothing.
 --
---   checked-count, checked_zero,       the answer, by what the code finds
---     checked_above, checked_below, checked_whole
+--   checked-count, checked_none,       the answer, by what the code finds
+--     checked_zero, checked_above, checked_below, checked_whole
 --   BoundsRefused, BoundsHeld          what an answer says of the bounds
 --   told-refused, told_held            by its variant
 --   some_bounds, few_bounds,           bounds that are held are 1 to 16, with a product of at most 2^64
@@ -25,7 +25,7 @@ use Rattle.arithmetic.specs.Products.{against, unwrap}
 use Rattle.arithmetic.specs.declared.bounds.Product.TheVariants.{Below, Whole, Above}
 use Rattle.arithmetic.proofs.Limits.{held_below, held_whole, held_above, unwrap_wrapped}
 use Rattle.answers.specs.Outcome.{Outcome, refused, done, decide, outside, of_bounds}
-use Rattle.answers.proofs.Deciding.{OfBatch, of_batch, decide-refused, decide_allowed, FitBounds, fit_bounds}
+use Rattle.answers.proofs.Deciding.{below_count, OfBatch, of_batch, decide-refused, decide_allowed, FitBounds, fit_bounds}
 use Rattle.rolls.specs.Inner.{checked}
 use Rattle.rolls.specs.declared.check.Checked.TheVariants.{Refused, Held}
 
@@ -42,6 +42,9 @@ module _ (bs : List ℕ) where
   pub checked-count : outside 1 max_batch (length bs) ≡ true → Refused 2 ≡ checked bs (decide (of_bounds w64 bs) (done [] []))
   unfolding outcome
   checked-count e = ap (checked bs) (sym (of.count e))
+
+  pub checked_none : length bs < 1 → Refused 2 ≡ checked bs (decide (of_bounds w64 bs) (done [] []))
+  checked_none h = checked-count (below_count 1 max_batch (length bs) h)
 
   module _ (count : outside 1 max_batch (length bs) ≡ false) where
     pub checked_zero : holds_zero bs ≡ true → Refused 4 ≡ checked bs (decide (of_bounds w64 bs) (done [] []))

@@ -2,19 +2,21 @@
 --
 --   find_batch                       the test by the low half of the product finds what the test of the last r finds
 --   passes_tested                    that test, as the code makes it
+--   searched_here                    the answer of a search at a word that passes it
 --   searched_hit, searched_missing   what the answer of a search says of it
 use mathlib.Core.Path.{◌≡◌, refl, sym, ap, ap₂, ◌∙◌}
 use mathlib.Core.Bool.{Bool}
 use mathlib.Core.List.{List, [], ◌∷◌}
-use Prim.Native.Nat.{ℕ, ◌-◌, ◌*◌, ◌%◌, ◌^◌, ◌<◌}
+use Prim.Native.Nat.{ℕ, ◌-◌, ◌*◌, ◌%◌, ◌^◌, ◌<◌, ◌≤◌}
 use native.Mathlib.Nat.{not-suc-le-zero, zero-mul, zero-mod, mul-mod_right}
 use native.Mathlib.Decide.{ℕ_discrete}
 use lib.Dec.{leb}
-use lib.ListN.{length}
+use lib.ListN.{length, get_or, drop}
+use borrow.Author.Tests.{le-leb}
 use Rattle.rules.specs.Rolls.{product, threshold, accepted}
 use Rattle.rules.specs.Run.{Found, found, missing, find}
 use Rattle.rules.proofs.Facts.{clash}
-use Rattle.rules.proofs.Finding.{find-same}
+use Rattle.rules.proofs.Finding.{find_hit, find-same}
 use Rattle.rules.proofs.Rolls.{rest_low}
 use Rattle.arithmetic.specs.Products.{unwrap}
 use Rattle.arithmetic.proofs.Limits.{unwrap_whole, unwrap_some}
@@ -47,6 +49,16 @@ pub passes_tested : (L b t r w : ℕ) (p : Bool) → t ≡ threshold L (unwrap L
 passes_tested L b t r w p e f g = sym (ap₂ leb e (f ∙ low_unwrap L b w)) ∙ g
 
 -- ---- a search's answer
+
+-- at a place such that the search from there finds what the search from the start finds
+pub searched_here : (words : List ℕ) (start at b rejected : ℕ) → at < length words → rejected ≡ at - start
+    → threshold 64 (unwrap 64 b) ≤ b * get_or words at 0 % 2 ^ 64
+    → find (passes 64 (unwrap 64 b)) (drop at words) at ≡ find (passes 64 (unwrap 64 b)) (drop start words) start
+    → Hit (get_or words at 0) at rejected ≡ searched start (find (passes 64 (unwrap 64 b)) (drop start words) start)
+searched_here words start at b rejected h e l f =
+    let w : ℕ = get_or words at 0 in
+    let p = passes_tested 64 b (threshold 64 (unwrap 64 b)) (b * w % 2 ^ 64) w _ refl refl (le-leb _ _ l) in
+    ap (λ (n : ℕ). Hit w at n) e ∙ ap (searched start) (sym (find_hit (passes 64 (unwrap 64 b)) words at h p) ∙ f)
 
 pub searched_hit : (start : ℕ) (f : Found) (w place m : ℕ) → searched start f ≡ Hit w place m
     → (f ≡ found (record { place = place; word = w })) × (m ≡ place - start)

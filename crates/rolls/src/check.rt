@@ -16,6 +16,7 @@ pub enum Checked {
 }
 
 // Whether the bounds of one batch are refused: 2 none or more than 16, 4 some bound 0, 5 product above 2^64.
+#[tactic(auto, using(crate::proofs::Checking::checked_none))]
 pub fn check_bounds(bounds: &[u64]) -> Checked
     ensures { result ≡ checked bounds.now (decide (of_bounds w64 bounds.now) (done [] [])) }
 {

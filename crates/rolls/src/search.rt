@@ -20,6 +20,7 @@ pub enum Search {
 
 // The first word from the start on that the batch with product b, where 0 stands for 2^64, accepts. The last r of a word is the low
 // half of b * word, so that no word is unfolded here.
+#[tactic(auto, using(crate::proofs::Searching::searched_here))]
 pub fn find_word(words: &[u64], start: usize, b: u64) -> Search
     requires { start ≤ length words.now }
     ensures { result ≡ searched start (find (passes 64 (unwrap 64 b)) (drop start words.now) start) }

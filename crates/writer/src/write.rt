@@ -68,6 +68,7 @@ fn refused_written(number: u64) -> Written
 // than the sheet; every byte of it is then exactly what it was. Each word and each record is copied once. The words 0, 1 and the
 // records 101, 205, 309 with k = 1 and w = 1 give the 52 bytes of the header 2, 24, 3, 40, 1, 1 and these words and records. While the
 // rules stand the same input has the same answer.
+#[tactic(auto, unfolding(crate::specs::WriteSheet::write_sheet, answers::specs::Outcome::decide))]
 pub fn write_sheet(words: &[u64], records: &[u32], k: usize, w: usize, sheet: &mut [u8]) -> Written
     ensures answer { result ≡ (seen_write words.now records.now k w sheet.old).0 }
     ensures sheet { sheet.new ≡ (seen_write words.now records.now k w sheet.old).1 }

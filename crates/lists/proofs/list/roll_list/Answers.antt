@@ -8,16 +8,11 @@ use mathlib.Core.List.{◌++◌}
 use Prim.Native.Nat.{ℕ, ◌^◌}
 use lib.ListN.{length, drop}
 use borrow.Author.Tests.{lt-ltb, le-ltb}
-use Rattle.answers.proofs.Deciding.{in_count, above_count, supplied_enough, refused-seen, done-seen}
+use Rattle.answers.proofs.Deciding.{in_count, supplied_enough, refused-seen, done-seen}
 use Rattle.lists.proofs.Filling.{length_list}
-use Rattle.lists.proofs.OneList.{list_count, list_zero, list_room, list_start, list_short, list_done}
+use Rattle.lists.proofs.OneList.{list_zero, list_room, list_start, list_short, list_done}
 use borrow.Author.Rules.{rules}
 use Rattle.lists.proofs.list.roll_list.Goals as goal
-
-pub returns-then-bounds-gt-MAX_BOUNDS : goal.returns-then-bounds-gt-MAX_BOUNDS
-returns-then-bounds-gt-MAX_BOUNDS c = let args = c.args in
-    let p = refused-seen _ 2 0 _ args.rolls.now _ (list_count w64 args.words.now args.start args.bounds.now (length args.rolls.now) (above_count 0 4096 (length args.bounds.now) c.if-bounds-gt-MAX_BOUNDS.true)) c.refused_answer.ensures in
-    record { answer = p.0; rolls = p.1 }
 
 pub returns-then-has_zero : goal.returns-then-has_zero
 returns-then-has_zero c = let args = c.args in

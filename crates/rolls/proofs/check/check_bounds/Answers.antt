@@ -1,13 +1,10 @@
 -- `rolls::check::check_bounds` meets its contract, test by test (Checking). Assumes nothing.
 use mathlib.Core.Path.{◌∙◌, sym}
 use lib.ListN.{length}
-use Rattle.answers.proofs.Deciding.{in_count, below_count, above_count}
+use Rattle.answers.proofs.Deciding.{in_count, above_count}
 use Rattle.rolls.proofs.Checking.{checked-count, checked_zero, checked_above, checked_below, checked_whole}
 use borrow.Author.Rules.{rules}
 use Rattle.rolls.proofs.check.check_bounds.Goals as goal
-
-pub returns-then-bounds-lt1 : goal.returns-then-bounds-lt1
-returns-then-bounds-lt1 c = let bs = c.args.bounds.now in checked-count bs (below_count 1 16 (length bs) c.if-bounds-lt1.true)
 
 pub returns-then-bounds-gt-MAX_BATCH : goal.returns-then-bounds-gt-MAX_BATCH
 returns-then-bounds-gt-MAX_BATCH c = let bs = c.args.bounds.now in checked-count bs (above_count 1 16 (length bs) c.if-bounds-gt-MAX_BATCH.true)

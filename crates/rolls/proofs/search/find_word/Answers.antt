@@ -1,13 +1,13 @@
 -- `rolls::search::find_word` meets its contract. The loop's invariant: t is the threshold, the search of what is left finds what the
 -- whole search finds, and the words passed are rejected. The measure is the words that are left. Assumes nothing.
 use mathlib.Core.Path.{◌∙◌, sym, ap}
-use Prim.Native.Nat.{ℕ, ◌≤◌, ◌<◌}
-use lib.ListN.{length, get_or}
-use borrow.Author.Tests.{le-leb, lt-leb}
-use Rattle.rules.proofs.Finding.{find_end, find_hit, find_miss}
+use Prim.Native.Nat.{◌≤◌, ◌<◌}
+use native.Mathlib.Omega.{arith}
+use lib.ListN.{length}
+use borrow.Author.Tests.{lt-leb}
+use Rattle.rules.proofs.Finding.{find_end, find_miss}
 use Rattle.arithmetic.specs.Products.{unwrap}
 use Rattle.rolls.specs.Inner.{passes, searched}
-use Rattle.rolls.specs.declared.search.Search.TheVariants.{Hit}
 use Rattle.rolls.proofs.Searching.{passes_tested}
 use borrow.Author.Rules.{rules}
 use Rattle.rolls.proofs.search.find_word.Goals as goal
@@ -21,7 +21,7 @@ loop-at-preserved c = let turn = c in
       search rules,
       turn.loop-at.invariant.3,
       sym (find_miss (passes 64 (unwrap 64 args.b)) args.words.now turn.loop-at.at here
-          (passes_tested 64 args.b _ _ _ _ turn.loop-at.invariant.3 c.low.ensures (lt-leb _ _ c.if-t-low.false))) ∙ turn.loop-at.invariant.4,
+          (passes_tested 64 args.b _ _ _ _ turn.loop-at.invariant.3 c.low.ensures (lt-leb c.threshold_of-t.result c.low.result (omega arith)))) ∙ turn.loop-at.invariant.4,
     )
 
 pub returns-then-at-words : goal.returns-then-at-words
@@ -29,11 +29,3 @@ returns-then-at-words c = let turn = c in
     let args = turn.args in
     let none : length args.words.now ≤ turn.loop-at.at = search rules in
     sym (ap (searched args.start) (sym turn.loop-at.invariant.4 ∙ find_end (passes 64 (unwrap 64 args.b)) args.words.now turn.loop-at.at none))
-
-pub returns-then-t-low : goal.returns-then-t-low
-returns-then-t-low c = let turn = c in
-    let args = turn.args in
-    let here : turn.loop-at.at < length args.words.now = search rules in
-    ap (λ (n : ℕ). Hit (get_or args.words.now turn.loop-at.at 0) turn.loop-at.at n) turn.loop-at.invariant.2
-    ∙ sym (ap (searched args.start) (sym turn.loop-at.invariant.4 ∙ find_hit (passes 64 (unwrap 64 args.b)) args.words.now turn.loop-at.at here
-    (passes_tested 64 args.b _ _ _ _ turn.loop-at.invariant.3 c.low.ensures (le-leb _ _ c.if-t-low.true))))

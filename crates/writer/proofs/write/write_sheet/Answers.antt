@@ -1,5 +1,5 @@
--- `writer::write::write_sheet` meets its contract. It goes refusal by refusal; then the three parts are put one behind the other.
--- Assumes nothing.
+-- `writer::write::write_sheet` meets its contract. It goes refusal by refusal, number 6 by the check alone, which unfolds what decides; then
+-- the three parts are put one behind the other. Assumes nothing.
 use mathlib.Core.Path.{◌≡◌, refl, ◌∙◌, sym}
 use mathlib.Core.Bool.{Bool, false}
 use mathlib.Core.List.{List}
@@ -11,7 +11,7 @@ use borrow.Author.Tests.{ltb-false}
 use Rattle.sheet.specs.Sheet.{is_wrong_size}
 use Rattle.sheet.proofs.Reading.{right_size}
 use Rattle.writer.specs.WriteSheet.{length_of}
-use Rattle.writer.proofs.Writing.{write_long, write_size, write_room, write_done, refused_write, done_write}
+use Rattle.writer.proofs.Writing.{write_long, write_size, write_done, refused_write, done_write}
 use borrow.Author.Rules.{rules}
 use Rattle.writer.proofs.write.write_sheet.Goals as goal
 
@@ -43,24 +43,11 @@ returns-then-wrong_size c =
 pub overflow_add-length : goal.overflow_add-length
 overflow_add-length c = let l = short c.args.words.now c.args.records.now _ c.too_long.ensures c.if-too_long.false in search rules
 
-pub returns-then-sheet-length : goal.returns-then-sheet-length
-returns-then-sheet-length c =
-    let a = c.args in
-    let long = sym c.too_long.ensures ∙ c.if-too_long.false in
-    let size = sym c.wrong_size.ensures ∙ c.if-wrong_size.false in
-    let seen = refused_write a.words.now a.records.now a.k a.w a.sheet.now _ 6
-    (write_room a.words.now a.records.now a.k a.w (length a.sheet.now) long size (omega (arith, c.if-sheet-length.true)))
-    c.refused_written-then-sheet-length.ensures in
-    record { answer = seen.0; sheet = seen.1 }
-
 pub overflow_cast-m : goal.overflow_cast-m
 overflow_cast-m c = let l = short c.args.words.now c.args.records.now _ c.too_long.ensures c.if-too_long.false in search rules
 
 pub overflow_cast-n : goal.overflow_cast-n
 overflow_cast-n c = let l = short c.args.words.now c.args.records.now _ c.too_long.ensures c.if-too_long.false in search rules
-
-pub overflow_cast-records_at : goal.overflow_cast-records_at
-overflow_cast-records_at c = let l = short c.args.words.now c.args.records.now _ c.too_long.ensures c.if-too_long.false in search rules
 
 pub overflow_cast-k : goal.overflow_cast-k
 overflow_cast-k c =
@@ -76,12 +63,15 @@ overflow_cast-w c =
     let f = fits (length a.records.now) a.k a.w _ c.wrong_size.ensures c.if-wrong_size.false in
     search rules
 
+pub write_header-requires : goal.write_header-requires
+write_header-requires c = (omega arith, omega arith)
+
 pub returns : goal.returns
 returns c =
     let a = c.args in
     let long = sym c.too_long.ensures ∙ c.if-too_long.false in
     let size = sym c.wrong_size.ensures ∙ c.if-wrong_size.false in
-    let room : length_of a.words.now a.records.now ≤ length a.sheet.now = omega (arith, c.if-sheet-length.false) in
+    let room : length_of a.words.now a.records.now ≤ length a.sheet.now = omega arith in
     let seen = done_write a.words.now a.records.now a.k a.w a.sheet.now _
     (write_done a.words.now a.records.now a.k a.w (length a.sheet.now) long size room) room refl
     c.write_header.new.sheet c.write_words.new.bytes c.write_records.new.bytes c.write_header.ensures c.write_words.ensures c.write_records.ensures in
