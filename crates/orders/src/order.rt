@@ -11,6 +11,7 @@ use answers::refusal;
 
 // Whether the list holds each of 0, 1, .., n - 1 once. Where it does, the mark of each of them is then its place in 0, 1, .., n - 1,
 // counted from 1; a mark of 0 is none.
+#[tactic(auto, using(crate::proofs::Marking::mark_twice))]
 fn mark_places(order: &[u32], marks: &mut [u32]) -> bool
     requires { (length order.now ≤ 16384) × (length marks.old ≡ 16384) × ((v : ℕ) → get_or marks.old v 0 ≡ 0) }
     ensures test { result ≡ is_order order.now }

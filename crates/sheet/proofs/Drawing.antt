@@ -6,14 +6,17 @@
 --   held_size                                             a sheet that was read has at most 16,377 records, and its k is from 1 to as many
 --   words_fit, words_count, records_fit, records_count    the lists are long enough for what was read into them
 --   words_front, records_front                            what was read stands in front of them
---   drawn_refused                                         what the caller sees of a sample that was refused
 --   drawn_done                                            what the caller sees of a sample that was done
+--   drawn_refused                                         what the caller sees of a sample that was refused
+--   arrays, zeros                                         what reading leaves in arrays of zeros with the most room that a sheet wants
+--   drawn_here                                            the sheet's draw is the sample of what stands in front of them
+--   shown_refused                                         a refusal is shown alike whatever the sheet
 use mathlib.Core.Path.{◌≡◌, refl, sym, ap, ◌∙◌}
 use mathlib.Core.Bool.{Bool, true, false}
 use mathlib.Core.List.{List, [], ◌∷◌, ◌++◌}
 use Prim.Native.Nat.{ℕ, ◌≤◌}
 use native.Mathlib.Omega.{arith}
-use lib.ListN.{length, take, drop, length-append}
+use lib.ListN.{length, take, drop, replicate, length-append, length-replicate}
 use lib.Seq.{take_at}
 use borrow.Author.Tests.{not-false}
 use Rattle.rules.specs.Run.{next, rejected}
@@ -184,3 +187,23 @@ module _ (s wordRoom recordRoom : List ℕ) (d : Drawn) (ws xs : List ℕ) (v : 
               ∙ ap (λ (x : Answer). drawn_by s x.next x.rejected) (seen.0 ∙ ap (shown 0) (same_draw ∙ e)) ∙ ap (shown_drawn s) (sym e),
           seen.1 ∙ ap (left before) same_draw,
         )
+
+-- ---- the arrays of the code
+
+-- what reading leaves in them, with its answer
+abbrev pub arrays : List ℕ → Drawn × (List ℕ × List ℕ)
+arrays s = seen_read s (replicate 8188 0) (replicate 16377 0)
+
+pub zeros : (n : ℕ) → n ≤ length (replicate {A = ℕ} n 0)
+zeros n = rw (length-replicate {A = ℕ} n 0) (omega arith)
+
+pub drawn_here : (s : List ℕ) (room : ℕ) → (arrays s).0.no ≡ 0
+    → run_sheet w64 s room ≡ sample w64 (take (arrays s).0.words (arrays s).1.0) 0 (take (arrays s).0.records (arrays s).1.1) (arrays s).0.k room
+drawn_here s room z =
+    let (d, (ws, xs)) = arrays s in
+    let v = held s (replicate 8188 0) (replicate 16377 0) d ws xs (zeros 8188) (zeros 16377) (refl, (refl, refl)) z in
+    sym (same_draw s (replicate 8188 0) (replicate 16377 0) d ws xs v room [] _ _ (refl, refl))
+
+pub shown_refused : (s : List ℕ) (o : Outcome) → ((shown 0 o).no ≡ 0 → ⊥) → shown_drawn s o ≡ shown_drawn [] (refused (shown 0 o).no (shown 0 o).batch)
+shown_refused s (refused n batch) h = refl
+shown_refused s (done values ts) h = absurd (h refl)

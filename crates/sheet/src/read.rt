@@ -144,6 +144,7 @@ fn read_numbers(sheet: &[u8]) -> Drawn
 // records or w is above k, 6 one of the lists is shorter than what is read into it; both lists are then exactly what they were, and the
 // six numbers are zeros. Each word and each record is copied once. The 52 bytes of the header 2, 24, 3, 40, 1, 1, the words 0, 1 and the
 // records 101, 205, 309 give these numbers, words and records back. While the rules stand the same input has the same answer.
+#[tactic(auto, unfolding(answers::specs::Outcome::decide))]
 pub fn read_sheet(sheet: &[u8], words: &mut [u64], records: &mut [u32]) -> Drawn
     ensures answer { result ≡ (seen_read sheet.now words.old records.old).0 }
     ensures words { words.new ≡ (seen_read sheet.now words.old records.old).1.0 }

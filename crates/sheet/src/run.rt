@@ -15,6 +15,7 @@ use draws::sample::sample_records;
 // record of the sheet is copied once, into local arrays, and then sampled. The 52 bytes of the header 2, 24, 3, 40, 1, 1, the words
 // 0, 1 and the records 101, 205, 309 give 309: next is 2 and one word is rejected. While the rules stand the same input has the same
 // answer.
+#[tactic(auto, using(crate::proofs::Drawing::drawn_here, crate::proofs::Drawing::shown_refused))]
 pub fn run_sheet(sheet: &[u8], slots: &mut [u32]) -> Drawn
     ensures answer { result ≡ (seen_sheet w64 sheet.now slots.old).0 }
     ensures slots { slots.new ≡ (seen_sheet w64 sheet.now slots.old).1 }

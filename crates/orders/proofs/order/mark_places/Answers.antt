@@ -5,7 +5,7 @@ use mathlib.Core.Path.{refl, sym}
 use mathlib.Core.Bool.{false≢true}
 use lib.ListN.{length-set}
 use borrow.Author.Rules.{rules}
-use Rattle.orders.proofs.Marking.{mark_none, mark_turn, mark_large, mark_twice, mark_done, mark_places_lem}
+use Rattle.orders.proofs.Marking.{mark_none, mark_turn, mark_large, mark_done, mark_places_lem}
 use Rattle.orders.proofs.order.mark_places.Goals as goal
 
 pub loop-i-init : goal.loop-i-init
@@ -13,9 +13,6 @@ loop-i-init c = (search rules, refl, mark_none _ _ c.requires.2)
 
 pub returns-then-v-order : goal.returns-then-v-order
 returns-then-v-order c = record { test = sym (mark_large c.loop-i.invariant.2 (search rules) (search rules)); places = λ e. absurd (false≢true e) }
-
-pub returns-then-marks-v-ne0 : goal.returns-then-marks-v-ne0
-returns-then-marks-v-ne0 c = record { test = sym (mark_twice c.loop-i.invariant.2 (search rules) (search rules)); places = λ e. absurd (false≢true e) }
 
 pub loop-i-preserved : goal.loop-i-preserved
 loop-i-preserved c =

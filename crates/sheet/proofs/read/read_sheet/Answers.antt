@@ -1,5 +1,5 @@
--- `sheet::read::read_sheet` meets its contract. It goes refusal by refusal; then the numbers of each area are what was read into the front of
--- its list. Assumes nothing.
+-- `sheet::read::read_sheet` meets its contract. It goes refusal by refusal, number 6 by the check alone, which unfolds what decides; then the
+-- numbers of each area are what was read into the front of its list. Assumes nothing.
 use mathlib.Core.Path.{◌≡◌, ◌∙◌, sym, ap}
 use mathlib.Core.Bool.{Bool, true, false}
 use native.Mathlib.Omega.{arith}
@@ -8,7 +8,7 @@ use Prim.Native.Nat.{ℕ}
 use Rattle.sheet.specs.Sheet.{numbers, is_wrong_size}
 use Rattle.sheet.specs.ReadSheet.{drawn_by}
 use Rattle.sheet.specs.declared.read.Drawn.{Drawn}
-use Rattle.sheet.proofs.Reading.{read_unsound, read_size, few_words, few_records, read_done, refused_read, done_read}
+use Rattle.sheet.proofs.Reading.{read_unsound, read_size, read_done, refused_read, done_read}
 use Rattle.sheet.proofs.Soundness.{sound_known}
 use borrow.Author.Rules.{rules}
 use Rattle.sheet.proofs.read.read_sheet.Goals as goal
@@ -37,26 +37,6 @@ returns-then-wrong_size c =
     (λ values. read_size a.sheet.now _ _ values sound sized) c.refused_drawn-then-wrong_size.ensures in
     record { answer = seen.0; words = seen.1.0; records = seen.1.1 }
 
-pub returns-then-words-m : goal.returns-then-words-m
-returns-then-words-m c =
-    let a = c.args in
-    let sound = sym c.is_sound.ensures ∙ c.if-not-is_sound.false in
-    let sized = size a.sheet.now _ _ false c.read_numbers-read.ensures c.wrong_size.ensures c.if-wrong_size.false in
-    let count = ap (λ (d : Drawn). d.words) c.read_numbers-read.ensures in
-    let seen = refused_read a.sheet.now a.words.now a.records.now _ 6
-    (λ values. few_words a.sheet.now _ _ values sound sized (omega (arith, c.if-words-m.true, count))) c.refused_drawn-then-words-m.ensures in
-    record { answer = seen.0; words = seen.1.0; records = seen.1.1 }
-
-pub returns-then-records-n : goal.returns-then-records-n
-returns-then-records-n c =
-    let a = c.args in
-    let sound = sym c.is_sound.ensures ∙ c.if-not-is_sound.false in
-    let sized = size a.sheet.now _ _ false c.read_numbers-read.ensures c.wrong_size.ensures c.if-wrong_size.false in
-    let count = ap (λ (d : Drawn). d.records) c.read_numbers-read.ensures in
-    let seen = refused_read a.sheet.now a.words.now a.records.now _ 6
-    (λ values. few_records a.sheet.now _ _ values sound sized (omega (arith, c.if-records-n.true, count))) c.refused_drawn-then-records-n.ensures in
-    record { answer = seen.0; words = seen.1.0; records = seen.1.1 }
-
 pub read_words-requires : goal.read_words-requires
 read_words-requires c =
     let known = sound_known c.args.sheet.now (sym c.is_sound.ensures ∙ c.if-not-is_sound.false) in
@@ -77,6 +57,6 @@ returns c =
     let read = c.read_numbers-read.ensures in
     let seen = done_read a.sheet.now a.words.now a.records.now _
     (λ values. read_done a.sheet.now _ _ values sound sized
-    (omega (arith, c.if-words-m.false, ap (λ (d : Drawn). d.words) read)) (omega (arith, c.if-records-n.false, ap (λ (d : Drawn). d.records) read)))
+    (omega (arith, ap (λ (d : Drawn). d.words) read)) (omega (arith, ap (λ (d : Drawn). d.records) read)))
     read c.read_words.new.words c.read_records.new.records c.read_words.ensures c.read_records.ensures in
     record { answer = seen.0; words = seen.1.0; records = seen.1.1 }
