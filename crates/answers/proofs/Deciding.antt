@@ -20,6 +20,7 @@ use mathlib.Core.List.{List, [], ◌∷◌, ◌++◌}
 use Prim.Native.Nat.{ℕ, ◌^◌, ◌<◌, ◌≤◌}
 use lib.Dec.{ltb}
 use lib.ListN.{length, drop}
+use Rattle.std.specs.Prelude.{Result, Ok, Err}
 use borrow.Author.Tests.{lt-ltb, le-ltb}
 use Rattle.rules.specs.Rolls.{product, holds_zero}
 use Rattle.rules.proofs.Facts.{clash}
@@ -29,7 +30,9 @@ use Rattle.rules.specs.Run.{Taken, Run, ran, short, suffices, run, trace, next, 
 use Rattle.answers.specs.Outcome.{Outcome, refused, done, Refusal, no_word, decide, outside, of_bounds, of_words, shown, left}
 use Rattle.answers.specs.declared.answer.Answer.{Answer}
 use Rattle.answers.specs.Supplied.{supplied, answered}
-use Rattle.answers.specs.declared.supply.Supply.TheVariants.{Enough, Short}
+use Rattle.answers.specs.declared.refusal.Refusal as refusal
+use Rattle.answers.specs.declared.refusal.Refusal.TheVariants.{Words}
+use Rattle.answers.specs.declared.results.Used.{Used}
 
 pub decide_here : (r : Refusal) (rs : List Refusal) (o : Outcome) → r.applies ≡ true → decide (r ∷ rs) o ≡ refused r.number r.batch
 unfolding decide
@@ -134,11 +137,19 @@ pub record Known (start : ℕ) (r : Run) (to more : ℕ) : Type 0 where
   pub place : next start (trace r) ≡ to
   pub passed : rejected start (trace r) ≡ more
 
-pub supplied_enough : (start : ℕ) (r : Run) (to more : ℕ) → supplied start r ≡ Enough to more → Known start r to more
-supplied_enough start (ran ts) to more e = record { enough = refl; place = cc; passed = cc }
+abbrev pub next_of : Result Used refusal.Refusal → ℕ
+next_of (Ok used) = used.next
+next_of (Err refusal) = 0
+
+abbrev pub rejected_of : Result Used refusal.Refusal → ℕ
+rejected_of (Ok used) = used.rejected
+rejected_of (Err refusal) = 0
+
+pub supplied_enough : (start : ℕ) (r : Run) (to more : ℕ) → supplied start r ≡ Ok (record { next = to; rejected = more }) → Known start r to more
+supplied_enough start (ran ts) to more e = record { enough = refl; place = ap next_of e; passed = ap rejected_of e }
 supplied_enough start (short k) to more e = clash cc
 
-pub supplied-short : (start : ℕ) (r : Run) (k : ℕ) → supplied start r ≡ Short k → r ≡ short k
+pub supplied-short : (start : ℕ) (r : Run) (k : ℕ) → supplied start r ≡ Err (Words k) → r ≡ short k
 supplied-short start (ran ts) k e = clash cc
 supplied-short start (short j) k e = ap short (cc)
 
@@ -160,10 +171,10 @@ module _ (L : ℕ) (plan : List (List ℕ)) (words : List ℕ) (start : ℕ) (o 
     pub words_done : suffices (run L plan words start) ≡ true → decide (of_words L plan words start) o ≡ o
     words_done e = decide_past _ _ _ (le-ltb (length words) start h) ∙ word_done (run L plan words start) o e
 
-    pub words_short : (k : ℕ) → supplied start (run L plan words start) ≡ Short k → decide (of_words L plan words start) o ≡ refused 10 k
+    pub words_short : (k : ℕ) → supplied start (run L plan words start) ≡ Err (Words k) → decide (of_words L plan words start) o ≡ refused 10 k
     words_short k e = no_words k (supplied-short start (run L plan words start) k e)
 
-    pub words_drawn : (to more : ℕ) → supplied start (run L plan words start) ≡ Enough to more → decide (of_words L plan words start) o ≡ o
+    pub words_drawn : (to more : ℕ) → supplied start (run L plan words start) ≡ Ok (record { next = to; rejected = more }) → decide (of_words L plan words start) o ≡ o
     words_drawn to more e = words_done (supplied_enough start (run L plan words start) to more e).enough
 
 -- ---- what the caller sees of one outcome: the answer, and the lent list
@@ -173,7 +184,7 @@ pub refused-seen : (o : Outcome) (n k start : ℕ) (before : List ℕ) (a : Answ
 refused-seen o n k start before a e f = (f ∙ ap (shown start) (sym e), ap (left before) (sym e))
 
 pub done-seen : (o : Outcome) (values : List ℕ) (start : ℕ) (r : Run) (to more : ℕ) (before out : List ℕ) (a : Answer)
-    → o ≡ done values (trace r) → supplied start r ≡ Enough to more → a ≡ answered to more → out ≡ values ++ drop (length values) before
+    → o ≡ done values (trace r) → supplied start r ≡ Ok (record { next = to; rejected = more }) → a ≡ answered to more → out ≡ values ++ drop (length values) before
     → (a ≡ shown start o) × (out ≡ left before o)
 done-seen o values start r to more before out a e s g f =
     let k = supplied_enough start r to more s in

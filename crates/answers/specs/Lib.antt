@@ -1,3 +1,4 @@
 pub mod Outcome
 pub mod Pinned
+pub mod Results
 pub mod Supplied

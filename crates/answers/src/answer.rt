@@ -1,12 +1,15 @@
-// What the caller of an operation gets, by value. `no` is 0 where nothing is refused, else the number of the refusal.
+// What the caller of an operation gets from C, by value: numbers and zeros, since C has neither a Result nor an enum with values. `no` is 0
+// where nothing is refused, else the number of the refusal.
 ghost use Rattle.std.specs.Prelude.{◌≡◌};
-ghost use Rattle.answers.specs.Outcome.{refused, shown, shown_batch, shown_behind};
-ghost use Rattle.answers.specs.Supplied.{answered};
+ghost use Rattle.answers.specs.Results.{answer_of, batch_answer_of, behind_of};
+
+use super::refusal::Refusal;
+use super::results::{Rolled, Used, WordRun};
 
 // A list of bounds, a shuffle, a sample, the rolls behind an order: the place after the last word used, the count of rejected
 // words, and at number 10 the batch that got no word.
 #[repr(C)]
-#[derive(Drop)]
+#[derive(Default, Drop)]
 pub struct Answer {
     pub no: u64,
     pub next: usize,
@@ -16,7 +19,7 @@ pub struct Answer {
 
 // One batch: sixteen rolls with their count, places past the count 0.
 #[repr(C)]
-#[derive(Drop)]
+#[derive(Default, Drop)]
 pub struct Batch {
     pub no: u64,
     pub next: usize,
@@ -27,7 +30,7 @@ pub struct Batch {
 
 // The words behind rolls: the first and the last of their run.
 #[repr(C)]
-#[derive(Drop)]
+#[derive(Default, Drop)]
 pub struct Behind {
     pub no: u64,
     pub next: usize,
@@ -36,52 +39,66 @@ pub struct Behind {
     pub last: u64,
 }
 
-// A refusal: its number, the start place as given, the batch at number 10, and zeros elsewhere.
-pub fn refused_answer(number: u64, start: usize, batch: usize) -> Answer
-    ensures { result ≡ shown start (refused number batch) }
-{
-    Answer {
-        no: number,
-        next: start,
-        rejected: 0,
-        batch,
+impl Answer {
+    // A refusal has its number, the start place as given, the batch at number 10, and zeros elsewhere.
+    pub fn of(start: usize, outcome: Result<Used, Refusal>) -> Answer
+        ensures { result ≡ answer_of start outcome }
+    {
+        match outcome {
+            Ok(used) => Answer {
+                next: used.next,
+                rejected: used.rejected,
+                ..Answer::default()
+            },
+            Err(refusal) => Answer {
+                no: refusal.number(),
+                next: start,
+                batch: refusal.batch(),
+                ..Answer::default()
+            },
+        }
     }
 }
 
-// A success: the place after the last word used and the count of rejected words; 0 for both where no word is used.
-pub fn done_answer(next: usize, rejected: usize) -> Answer
-    ensures { result ≡ answered next rejected }
-{
-    Answer {
-        no: 0,
-        next,
-        rejected,
-        batch: 0,
+impl Batch {
+    pub fn of(start: usize, outcome: Result<Rolled, Refusal>) -> Batch
+        ensures { result ≡ batch_answer_of start outcome }
+    {
+        match outcome {
+            Ok(rolled) => {
+                let rolls = rolled.rolls;
+                Batch {
+                    next: rolled.used.next,
+                    rejected: rolled.used.rejected,
+                    count: rolled.count,
+                    rolls,
+                    ..Batch::default()
+                }
+            }
+            Err(refusal) => Batch {
+                no: refusal.number(),
+                next: start,
+                ..Batch::default()
+            },
+        }
     }
 }
 
-// A refusal of one batch.
-pub fn refused_batch(number: u64, start: usize) -> Batch
-    ensures { result ≡ shown_batch start (refused number 0) }
-{
-    Batch {
-        no: number,
-        next: start,
-        rejected: 0,
-        count: 0,
-        rolls: [0; 16],
-    }
-}
+// No word is used, and no start is given.
+impl From<Result<WordRun, Refusal>> for Behind {
+    ghost from_gives = { λ outcome answer. answer ≡ behind_of outcome };
 
-// A refusal of the words behind rolls, which takes no start.
-pub fn refused_behind(number: u64) -> Behind
-    ensures { result ≡ shown_behind (refused number 0) }
-{
-    Behind {
-        no: number,
-        next: 0,
-        rejected: 0,
-        first: 0,
-        last: 0,
+    fn from(outcome: Result<WordRun, Refusal>) -> Behind {
+        match outcome {
+            Ok(run) => Behind {
+                first: run.first,
+                last: run.last,
+                ..Behind::default()
+            },
+            Err(refusal) => Behind {
+                no: refusal.number(),
+                ..Behind::default()
+            },
+        }
     }
 }

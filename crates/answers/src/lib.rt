@@ -1,10 +1,11 @@
-// What the caller of an operation gets: the numbers for no, the answers, and what a dry run over the words tells. The limits that
-// several operations share stand here too.
+// What the caller of an operation gets: the refusals with their numbers, what comes where nothing is refused, and both as one answer for
+// a caller from C. The limits that several operations share stand here too.
 //
-// Contracts cite specs/: Outcome (refusals, and what a caller sees) and Supplied.
+// Contracts here cite specs/Results: what a result says. Those of the operations cite specs/Outcome too, refusals and what a caller sees,
+// and specs/Supplied.
 #![tactic(auto)]
 
 pub mod answer;
 pub mod limits;
 pub mod refusal;
-pub mod supply;
+pub mod results;

@@ -1,31 +1,57 @@
-// The numbers for no, as document 01 fixes them. The lowest that applies is given.
+// Why an operation gives nothing, with the number that the rules fix for each. The lowest number that applies is given.
+ghost use Rattle.std.specs.Prelude.{◌≡◌};
+ghost use Rattle.answers.specs.Results.{number_of, batch_of};
 
-// the sheet is not sound
-pub const SHEET: u64 = 1;
+#[derive(Clone, Copy, Debug, PartialEq, Eq)]
+pub enum Refusal {
+    // the sheet is not sound
+    Sheet,
+    // bounds or records outside their count; a sheet to be written would pass 65,535 bytes
+    Count,
+    // k is 0 or above n; on a sheet, w is above k
+    Sample,
+    // some bound is 0
+    Zero,
+    // product of one batch above 2^64
+    Product,
+    // the lent result list is too short
+    Room,
+    // rolls and bounds differ in count, or a roll reaches its bound; the place asked for is not below the count of records
+    Misfit,
+    // the list isn't each of 0..n - 1 once
+    Order,
+    // start place above the number of words
+    Start,
+    // the list ends before this batch, counted from 0, has an accepted word
+    Words { batch: usize },
+}
 
-// bounds or records outside their count; a sheet to be written would pass 65,535 bytes
-pub const COUNT: u64 = 2;
+impl Refusal {
+    // The number that C gets in `no`.
+    pub fn number(self) -> u64
+        ensures { result ≡ number_of self }
+    {
+        match self {
+            Refusal::Sheet => 1,
+            Refusal::Count => 2,
+            Refusal::Sample => 3,
+            Refusal::Zero => 4,
+            Refusal::Product => 5,
+            Refusal::Room => 6,
+            Refusal::Misfit => 7,
+            Refusal::Order => 8,
+            Refusal::Start => 9,
+            Refusal::Words { .. } => 10,
+        }
+    }
 
-// k is 0 or above n; on a sheet, w is above k
-pub const SAMPLE: u64 = 3;
-
-// some bound is 0
-pub const ZERO: u64 = 4;
-
-// product of one batch above 2^64
-pub const PRODUCT: u64 = 5;
-
-// the lent result list is too short
-pub const ROOM: u64 = 6;
-
-// rolls and bounds differ in count, or a roll reaches its bound; the place asked for is not below the count of records
-pub const MISFIT: u64 = 7;
-
-// the list isn't each of 0..n - 1 once
-pub const ORDER: u64 = 8;
-
-// start place above the number of words
-pub const START: u64 = 9;
-
-// the list ends before some batch has an accepted word
-pub const WORDS: u64 = 10;
+    // The batch that got no word; 0 for numbers other than 10.
+    pub fn batch(self) -> usize
+        ensures { result ≡ batch_of self }
+    {
+        match self {
+            Refusal::Words { batch } => batch,
+            _ => 0,
+        }
+    }
+}

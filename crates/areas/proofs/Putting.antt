@@ -1,56 +1,30 @@
 -- Bytes of numbers put at a place of a list, one number behind the other. Assumes nothing.
 --
---   number_put, word_put                      a number put byte by byte; a word put by its halves
+--   number_put                                the bytes of a number put over a part of the bytes
 --   Laid, laid_none, laid_turn, laid_whole    the loop that puts the numbers of an area, of any size
 use mathlib.Core.Path.{◌≡◌, refl, sym, ap, ◌∙◌}
-use mathlib.Core.List.{List, ◌++◌, append_assoc, append-nil}
-use Prim.Native.Nat.{ℕ, zero, suc, ◌+◌, ◌*◌, ◌/◌, ◌%◌, ◌^◌, ◌<◌, ◌≤◌}
-use native.Mathlib.Nat.{zero-lt-suc, pow-suc, one-le-pow, mul-le-mul_left}
+use mathlib.Core.List.{List, ◌++◌, append-nil}
+use Prim.Native.Nat.{ℕ, ◌+◌, ◌-◌, ◌*◌, ◌<◌, ◌≤◌}
+use native.Mathlib.Nat.{mul-le-mul_left}
 use native.Mathlib.Numerals.{add-one}
 use native.Mathlib.Omega.{arith}
-use lib.Arith.{digits_div, digits_mod, mod-mul}
-use lib.ListN.{length, take, set, get_or}
-use lib.Seq.{take-suc, take_all, length-take-le, sets-eq}
+use borrow.Rule.Slice.PartMut.{put_mid}
+use lib.ListN.{length, take, get_or}
+use lib.Seq.{take-suc, take_all, drop-drop, length-take-le}
+use Rattle.std.specs.Int.{bytes_low_first}
 use Rattle.rules.specs.Put.{put}
 use Rattle.rules.proofs.Writing.{length-put, put_none, put-put}
 use Rattle.areas.specs.Area.{bytes_of, area}
+use Rattle.areas.proofs.Bytes.{bytes_of_number}
 use Rattle.areas.proofs.Laying.{length_bytes, length-area, area-append}
 
 -- ---- a number
 
-pub number_put : (out : List ℕ) (at n : ℕ) → at + 4 ≤ length out → n < 4294967296
-    → set (set (set (set out at (n % 256)) (at + 1) (n / 256 % 256)) (at + 2) (n / 65536 % 256)) (at + 3) (n / 16777216) ≡ put out at (bytes_of 4 n)
-unfolding bytes_of
-number_put out at n h b =
-    let e₁ : at + 1 ≡ suc at = omega arith in
-    let e₂ : at + 2 ≡ suc (suc at) = omega arith in
-    let e₃ : at + 3 ≡ suc (suc (suc at)) = omega arith in
-    let b₂ : n / 65536 ≡ n / 256 / 256 = omega arith in
-    let b₃ : n / 16777216 ≡ n / 256 / 256 / 256 % 256 = omega arith in
-    rw (e₁, e₂, e₃, b₂, b₃) (sets-eq (bytes_of 4 n) out at h ∙ append_assoc (take at out) (bytes_of 4 n) _)
-
--- the low bytes of a number are those of its remainder
-low_bytes : (size n : ℕ) → bytes_of size (n % 256 ^ size) ≡ bytes_of size n
-unfolding bytes_of
-low_bytes zero n = refl
-low_bytes (suc size) n =
-    let byte : n % 256 < 256 = omega arith in
-    let high : ℕ = n / 256 % 256 ^ size in
-    let e : n % 256 ^ suc size ≡ high * 256 + n % 256 = rw (pow-suc 256 size) (mod-mul n (one-le-pow size 256 (zero-lt-suc 255)) (zero-lt-suc 255)) in
-    rw (e, digits_mod high byte, digits_div high byte, low_bytes size (n / 256))
-
--- the bytes of a word are those of its low half, and behind them those of its high half
-halves : (n : ℕ) → bytes_of 4 (n % 4294967296) ++ bytes_of 4 (n / 4294967296) ≡ bytes_of 8 n
-unfolding bytes_of
-halves n =
-    let e : n / 4294967296 ≡ n / 256 / 256 / 256 / 256 = omega arith in
-    ap (λ (l : List ℕ). l ++ bytes_of 4 (n / 4294967296)) (low_bytes 4 n) ∙ rw e
-
-pub word_put : (out : List ℕ) (at n : ℕ) → at + 8 ≤ length out
-    → put (put out at (bytes_of 4 (n % 4294967296))) (at + 4) (bytes_of 4 (n / 4294967296)) ≡ put out at (bytes_of 8 n)
-word_put out at n h =
-    put-put out at (at + 4) (bytes_of 4 (n % 4294967296)) (bytes_of 4 (n / 4294967296)) (omega (arith, length_bytes 4 (n % 4294967296))) (omega arith)
-    ∙ ap (put out at) (halves n)
+-- the bytes of a part, as a function that it was lent on to left them
+pub number_put : (size n at : ℕ) (out bytes : List ℕ) → bytes ≡ bytes_low_first 0 size n → put_mid at (at + size - at) out bytes ≡ put out at (bytes_of size n)
+number_put size n at out bytes e =
+    let long : at + size - at ≡ length (bytes_of size n) = omega (arith, length_bytes size n) in
+    rw (e, bytes_of_number size n, long, drop-drop (length (bytes_of size n)) at out)
 
 -- ---- the numbers of an area
 

@@ -1,18 +1,20 @@
 -- Numbers read from bytes, and those of an area. Assumes nothing.
 --
 --   number_none, number_step    a number of no bytes; a number by its first byte and the rest of it
---   four_read, number_eight     a number by its bytes, and by its halves
+--   number_read                 a number as the library makes it of its bytes
 --   length-entries              an area has as many numbers as its count
 --   get_or-entries              the i-th number of an area
 use mathlib.Core.Path.{◌≡◌, refl, ap, ◌∙◌}
 use mathlib.Core.List.{List}
-use Prim.Native.Nat.{ℕ, zero, suc, ◌+◌, ◌*◌, ◌<◌, ◌≤◌}
+use Prim.Native.Nat.{ℕ, zero, suc, ◌+◌, ◌-◌, ◌*◌, ◌<◌, ◌≤◌}
 use native.Mathlib.Nat.{not-suc-le-zero, le_of_suc-le-suc}
 use native.Mathlib.Numerals.{add-one}
 use native.Mathlib.Omega.{arith}
-use lib.ListN.{length, get_or}
-use lib.Seq.{drop-cons}
+use lib.ListN.{length, take, drop, get_or, length-drop}
+use lib.Seq.{drop-cons, length-take-le}
+use Rattle.std.specs.Int.{sum_through}
 use Rattle.areas.specs.Area.{little, number, entries}
+use Rattle.areas.proofs.Bytes.{worth, number_of_bytes}
 
 -- ---- a number
 
@@ -24,30 +26,15 @@ pub number_step : (size at next : ℕ) (s : List ℕ) → next ≡ at + 1 → at
 unfolding little
 number_step size at next s e h = rw (e, add-one at, drop-cons s at 0 h)
 
-abbrev four_bytes : List ℕ → ℕ → ℕ
-four_bytes s at = get_or s at 0 + get_or s (at + 1) 0 * 256 + get_or s (at + 2) 0 * 65536 + get_or s (at + 3) 0 * 16777216
-
--- the low four bytes of a number, and the rest of it
-number_low : (size at : ℕ) (s : List ℕ) → at + 4 ≤ length s → number (suc (suc (suc (suc size)))) at s ≡ four_bytes s at + number size (at + 4) s * 4294967296
-number_low size at s h =
-    omega (
-      arith,
-      number_step (suc (suc (suc size))) at (at + 1) s (omega arith) (omega arith),
-      number_step (suc (suc size)) (at + 1) (at + 2) s (omega arith) (omega arith),
-      number_step (suc size) (at + 2) (at + 3) s (omega arith) (omega arith),
-      number_step size (at + 3) (at + 4) s (omega arith) (omega arith),
-    )
-
-number_four : (at : ℕ) (s : List ℕ) → at + 4 ≤ length s → number 4 at s ≡ four_bytes s at
-number_four at s h = omega (arith, number_low 0 at s h, number_none (at + 4) s)
-
--- with the bytes as the code holds them
-pub four_read : (at : ℕ) (s : List ℕ) (b0 b1 b2 b3 : ℕ) → at + 4 ≤ length s → b0 ≡ get_or s at 0 → b1 ≡ get_or s (at + 1) 0 → b2 ≡ get_or s (at + 2) 0
-    → b3 ≡ get_or s (at + 3) 0 → b0 + b1 * 256 + b2 * 65536 + b3 * 16777216 ≡ number 4 at s
-four_read at s b0 b1 b2 b3 h e f g k = rw (number_four at s h, e, f, g, k)
-
-pub number_eight : (at : ℕ) (s : List ℕ) → at + 8 ≤ length s → number 8 at s ≡ number 4 at s + number 4 (at + 4) s * 4294967296
-number_eight at s h = omega (arith, number_low 4 at s (omega arith), number_four at s (omega arith))
+-- the number that the library makes of the bytes of a part
+pub number_read : (size at : ℕ) (s bytes : List ℕ) (n : ℕ) → bytes ≡ take (at + size - at) (drop at s) → 0 < size → at + size ≤ length s → n ≡ sum_through (worth bytes) (size - 1)
+    → n ≡ number size at s
+number_read zero at s bytes n e some h k = absurd (omega arith)
+number_read (suc size) at s bytes n e some h k =
+    let long : at + suc size - at ≡ suc size = omega arith in
+    let last : suc size - 1 ≡ size = omega arith in
+    let part : bytes ≡ take (suc size) (drop at s) = e ∙ ap (λ (m : ℕ). take m (drop at s)) long in
+    k ∙ ap (sum_through (worth bytes)) last ∙ number_of_bytes size bytes (ap length part ∙ length-take-le (suc size) (drop at s) (rw length-drop (omega arith))) ∙ ap little part
 
 -- ---- the numbers of an area
 

@@ -4,5 +4,6 @@
 // bytes of both.
 #![tactic(auto)]
 
+pub mod number;
 pub mod read;
 pub mod write;

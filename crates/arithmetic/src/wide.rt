@@ -1,6 +1,6 @@
 // The product of two words, which has 128 bits, as its high and its low half: rolls are made of it, and it tells whether a product
 // of bounds is too large. Each half is made of products of 32-bit halves, which fit a word; two functions, each of which a compiler
-// turns into one multiplication.
+// turns into one multiplication. By halves and not by a 128-bit type: the wrong programs about carries (must-fail/) are wrong in these sums.
 ghost use Rattle.std.specs.Prelude.{◌≡◌, ◌*◌, ◌/◌, ◌%◌, ◌^◌};
 
 // 2^32.

@@ -1,3 +1,4 @@
 pub mod OneSample
+pub mod Planning
 pub mod Rolled
 pub mod Sampling

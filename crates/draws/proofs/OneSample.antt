@@ -14,7 +14,8 @@ use Rattle.rules.specs.Width.{Width}
 use Rattle.rules.specs.Run.{run}
 use Rattle.answers.specs.Outcome.{refused, decide, outside, of_words}
 use Rattle.answers.specs.Supplied.{supplied}
-use Rattle.answers.specs.declared.supply.Supply.TheVariants.{Enough, Short}
+use Rattle.std.specs.Prelude.{Ok, Err}
+use Rattle.answers.specs.declared.refusal.Refusal.TheVariants.{Words}
 use Rattle.answers.proofs.Deciding.{decide_here, decide_past, no_start, words_short, words_drawn}
 use Rattle.draws.specs.Sample.{sample_plan, sampled, sample}
 
@@ -42,9 +43,9 @@ module _ (W : Width) (words : List ℕ) (start : ℕ) (xs : List ℕ) (k room : 
         sample_start h = rest ∙ no_start W.bits (sample_plan W (length xs) k) words start _ h
 
         module _ (h : start ≤ length words) where
-          pub sample-short : (j : ℕ) → supplied start (run W.bits (sample_plan W (length xs) k) words start) ≡ Short j → sample W words start xs k room ≡ refused 10 j
+          pub sample-short : (j : ℕ) → supplied start (run W.bits (sample_plan W (length xs) k) words start) ≡ Err (Words j) → sample W words start xs k room ≡ refused 10 j
           sample-short j e = rest ∙ words_short W.bits (sample_plan W (length xs) k) words start _ h j e
 
-          pub sample-done : (to more : ℕ) → supplied start (run W.bits (sample_plan W (length xs) k) words start) ≡ Enough to more
+          pub sample-done : (to more : ℕ) → supplied start (run W.bits (sample_plan W (length xs) k) words start) ≡ Ok (record { next = to; rejected = more })
               → sample W words start xs k room ≡ sampled W words start xs k
           sample-done to more e = rest ∙ words_drawn W.bits (sample_plan W (length xs) k) words start (sampled W words start xs k) h to more e

@@ -5,82 +5,83 @@ ghost use Rattle.rules.specs.Reservoir.{reservoir};
 ghost use Rattle.rules.specs.Rolls.{in_range};
 ghost use Rattle.rules.specs.Sample.{sample_bounds, sample_with};
 ghost use Rattle.rules.specs.Shuffle.{shuffle_with, shuffle_bounds};
+ghost use Rattle.answers.specs.Results.{answer_of};
 ghost use Rattle.draws.specs.Sample.{seen_sample};
 
+use super::plan::Size;
 use super::rolling::roll_sample;
-use answers::answer::{Answer, done_answer, refused_answer};
 use answers::limits::MAX_RECORDS;
-use answers::refusal;
-use answers::supply::Supply;
+use answers::refusal::Refusal;
+use answers::results::Used;
+use rolls::words::Words;
 use shuffles::shuffle::exchange_records;
 
-// Puts the first k records into the first k slots.
-fn take_first(records: &[u32], k: usize, slots: &mut [u32])
-    requires { (k ≤ length records.now) × (k ≤ length slots.old) }
-    ensures { slots.new ≡ take k records.now ++ drop k slots.old }
+// Puts the first records into the slots, one into each.
+fn take_first(records: &[u32], slots: &mut [u32])
+    requires { length slots.old ≤ length records.now }
+    ensures { slots.new ≡ take (length slots.old) records.now }
 {
-    let mut i: usize = 0;
-    while i < k {
-        slots[i] = records[i];
-        i += 1;
-    }
+    slots.copy_from_slice(&records[..slots.len()]);
 }
 
-// For each record from place k on, with its roll j: if j is below k, slot j gets the record.
-fn take_later(records: &[u32], k: usize, rolls: &[u64], slots: &mut [u32])
-    requires { (k + length rolls.now ≡ length records.now) × (k ≤ length slots.old) }
-    ensures { slots.new ≡ reservoir (take k slots.old) (drop k records.now) rolls.now ++ drop k slots.old }
+// For each record from place k on, where there are k slots, with its roll j: if j is below k, slot j gets the record.
+#[tactic(auto, using(crate::proofs::Sampling::later_taken, crate::proofs::Sampling::later_passed, crate::proofs::Sampling::later_done))]
+fn take_later(records: &[u32], rolls: &[u64], slots: &mut [u32])
+    requires { length slots.old + length rolls.now ≡ length records.now }
+    ensures { slots.new ≡ reservoir slots.old (drop (length slots.old) records.now) rolls.now }
 {
-    let mut i: usize = 0;
-    while i < rolls.len() {
-        let j = rolls[i] as usize;
+    let k = slots.len();
+    for (i, &roll) in rolls.iter().enumerate() {
+        let j = roll as usize;
         if j < k {
             slots[j] = records[k + i];
         }
-        i += 1;
     }
 }
 
 // Shuffles the slots by the rolls, one for each slot but the last to be placed.
+#[tactic(auto, using(rules::proofs::Range::range_true, rules::proofs::Turns::turned_none, rules::proofs::Turns::turned_range, rules::proofs::Turns::turned_done))]
 fn shuffle_slots(rolls: &[u64], slots: &mut [u32])
     requires { in_range (shuffle_bounds (length slots.old)) rolls.now ≡ true }
     ensures { slots.new ≡ shuffle_with (length slots.old) rolls.now slots.old }
 {
-    let mut i: usize = 0;
-    while i < rolls.len() {
+    for (i, &roll) in rolls.iter().enumerate() {
         let last = slots.len() - 1 - i;
-        exchange_records(slots, rolls[i] as usize, last);
-        i += 1;
+        exchange_records(slots, roll as usize, last);
     }
 }
 
-// Fills the first k slots by the rolls of a sample: the reservoir by the first n - k of them, then the shuffle of the slots by the others.
-fn fill_slots(records: &[u32], k: usize, rolls: &[u64], slots: &mut [u32])
-    requires { (k ≤ length records.now) × (k ≤ length slots.old) × (in_range (sample_bounds (length records.now) k) rolls.now ≡ true) }
-    ensures { slots.new ≡ sample_with k rolls.now records.now ++ drop k slots.old }
+// Fills the slots by the rolls of a sample: the reservoir by the first of them, one for each record from place k on, then the shuffle of the k
+// slots by the others.
+#[tactic(auto, using(crate::proofs::Sampling::later_fits, crate::proofs::Sampling::front_range, crate::proofs::Sampling::slots_filled))]
+fn fill_slots(records: &[u32], rolls: &[u64], slots: &mut [u32])
+    requires { (length slots.old ≤ length records.now) × (in_range (sample_bounds (length records.now) (length slots.old)) rolls.now ≡ true) }
+    ensures { slots.new ≡ sample_with (length slots.old) rolls.now records.now }
 {
-    let later = records.len() - k;
-    take_first(records, k, slots);
-    take_later(records, k, &rolls[..later], slots);
-    shuffle_slots(&rolls[later..], &mut slots[..k]);
+    let later = records.len() - slots.len();
+    take_first(records, slots);
+    take_later(records, &rolls[..later], slots);
+    shuffle_slots(&rolls[later..], slots);
 }
 
 // The sample where no refusal before number 10 applies. No slot is written before all the rolls are there.
-fn draw_sample(words: &[u64], start: usize, records: &[u32], k: usize, slots: &mut [u32]) -> Answer
-    requires { (start ≤ length words.now) × (length records.now ≤ 16384) × (0 < k) × (k ≤ length records.now) × (k ≤ length slots.old) }
-    ensures answer { result ≡ (seen_sample w64 words.now start records.now k slots.old).0 }
-    ensures slots { slots.new ≡ (seen_sample w64 words.now start records.now k slots.old).1 }
+fn draw_sample(
+    words: Words,
+    size: Size,
+    records: &[u32],
+    slots: &mut [u32],
+) -> Result<Used, Refusal>
+    requires count { size.n ≡ length records.now }
+    requires room { size.k ≤ length slots.old }
+    ensures answer { answer_of words.entry.next result ≡ (seen_sample w64 words.entry.list.now words.entry.next records.now size.k slots.old).0 }
+    ensures slots { slots.new ≡ (seen_sample w64 words.entry.list.now words.entry.next records.now size.k slots.old).1 }
 {
-    let n = records.len();
-    let count = n - 1;
+    let count = size.n - 1;
+    // fixed memory: the library has no heap
     let mut rolls = [0u64; MAX_RECORDS];
-    match roll_sample(words, start, n, k, &mut rolls[..count]) {
-        Supply::Enough { next, rejected } => {
-            fill_slots(records, k, &rolls[..count], slots);
-            done_answer(next, rejected)
-        }
-        Supply::Short { batch } => refused_answer(refusal::WORDS, start, batch),
-    }
+    let used = roll_sample(words, size, &mut rolls[..count])?;
+    fill_slots(records, &rolls[..count], &mut slots[..size.k]);
+    Ok(used)
 }
 
 // A sample of k of the records in a drawn order, into the first k of the lent slots; slots past k stay.
@@ -99,25 +100,23 @@ pub fn sample_records(
     records: &[u32],
     k: usize,
     slots: &mut [u32],
-) -> Answer
-    ensures answer { result ≡ (seen_sample w64 words.now start records.now k slots.old).0 }
+) -> Result<Used, Refusal>
+    ensures answer { answer_of start result ≡ (seen_sample w64 words.now start records.now k slots.old).0 }
     ensures slots { slots.new ≡ (seen_sample w64 words.now start records.now k slots.old).1 }
 {
     let n = records.len();
     if MAX_RECORDS < n {
-        return refused_answer(refusal::COUNT, start, 0);
+        return Err(Refusal::Count);
     }
     if k < 1 {
-        return refused_answer(refusal::SAMPLE, start, 0);
+        return Err(Refusal::Sample);
     }
     if n < k {
-        return refused_answer(refusal::SAMPLE, start, 0);
+        return Err(Refusal::Sample);
     }
     if slots.len() < k {
-        return refused_answer(refusal::ROOM, start, 0);
+        return Err(Refusal::Room);
     }
-    if words.len() < start {
-        return refused_answer(refusal::START, start, 0);
-    }
-    draw_sample(words, start, records, k, slots)
+    let words = Words::from(words, start)?;
+    draw_sample(words, Size { n, k }, records, slots)
 }

@@ -4,8 +4,8 @@
 --   output_pinned    the output is as the examples have it, and as its refusals ask
 use mathlib.Core.Path.{◌≡◌, refl, sym, ap, ◌∙◌}
 use mathlib.Core.Bool.{Bool, true, false}
-use mathlib.Core.List.{List, [], ◌∷◌, ◌++◌, append-nil, append_assoc}
-use Prim.Native.Nat.{ℕ, ◌+◌, ◌<◌, ◌≤◌}
+use mathlib.Core.List.{List, [], ◌∷◌, ◌++◌, append-nil}
+use Prim.Native.Nat.{ℕ, ◌<◌, ◌≤◌}
 use native.Mathlib.Omega.{arith}
 use lib.Dec.{ltb}
 use lib.ListN.{length, take, replicate}
@@ -26,23 +26,14 @@ use Rattle.areas.specs.Area.{little, entries}
 use Rattle.sheet.specs.Sheet.{Numbers, numbers, words_of, Sound}
 use Rattle.sheet.specs.ReadSheet.{shown_drawn}
 use Rattle.sheet.specs.RunSheet.{run_sheet}
-use Rattle.sheet.specs.declared.read.Drawn.{Drawn}
+use Rattle.sheet.specs.declared.drawn.Drawn.{Drawn}
 use Rattle.sheet.proofs.Running.{sheet_flat, sheet_refusal, four_only, sheet_unsound}
 use Rattle.sheet.proofs.Soundness.{sound_known, sound_false}
 use Rattle.lines.specs.Text.{line, draw_line_of, slot_line_of, refused_line_of, first_line_of, slot_lines, told, room, output}
 use Rattle.lines.specs.Pinned.{SlotsPinned, OutputPinned}
-use Rattle.lines.proofs.Printing.{first-refused}
+use Rattle.lines.proofs.Printing.{first-refused, lines_behind}
 
 -- ---- the lines of the slots
-
-lines_behind : (w slot : ℕ) (xs ys : List ℕ) → slot_lines w slot (xs ++ ys) ≡ slot_lines w slot xs ++ slot_lines w (slot + length xs) ys
-unfolding slot_lines
-lines_behind w slot [] ys = let e : slot ≡ slot + 0 = omega arith in ap (λ (n : ℕ). slot_lines w n ys) e
-lines_behind w slot (x ∷ xs) ys =
-    let e : slot + 1 + length xs ≡ slot + length (x ∷ xs) = omega arith in
-    ap (λ (l : List ℕ). slot_line_of w slot x ++ l)
-    (lines_behind w (slot + 1) xs ys ∙ ap (λ (n : ℕ). slot_lines w (slot + 1) xs ++ slot_lines w n ys) e)
-    ∙ sym (append_assoc (slot_line_of w slot x) (slot_lines w (slot + 1) xs) (slot_lines w (slot + length (x ∷ xs)) ys))
 
 pub slots_pinned : SlotsPinned
 unfolding slot_lines

@@ -16,7 +16,7 @@ use Rattle.answers.specs.Outcome.{Outcome, left}
 use Rattle.spelling.specs.Decimal.{decimal}
 use Rattle.sheet.specs.ReadSheet.{shown_drawn}
 use Rattle.sheet.specs.RunSheet.{run_sheet}
-use Rattle.sheet.specs.declared.read.Drawn.{Drawn}
+use Rattle.sheet.specs.declared.drawn.Drawn.{Drawn}
 
 -- Fields are parted by one blank (32) and each line ends with a line feed (10).
 unfoldable pub line : List ℕ → List (List ℕ) → List ℕ

@@ -1,15 +1,15 @@
--- Cutting a list of bounds into batches, over every limit. Assumes nothing.
+-- Cutting a list of bounds into batches, over every limit; and the cut that the code makes, at 64 bits. Assumes nothing.
 --
 --   part bs at end                        the bounds from a place up to another
 --   Begun, begun                          how the first batch of a list stands in it
 --   Cutting, cut-first, cut-turn          the loop that finds the end of a batch
---   cut_list_ends, cut_full, cut-passes   the batch ends where the list does, or it has sixteen bounds, or its product passes the limit
---   cut_found                             what is answered then
---   cut_filled                            the batch of sixteen bounds at 64 bits
+--   cut_list_ends, cut-passes             the batch ends where the list does, or its product passes the limit
+--   cut_found, cut_ended                  what is answered then; and of the last batch of the list
+--   cut_filled                            the batch ends where it has sixteen bounds
 use mathlib.Core.Path.{◌≡◌, refl, sym, ap, ap₂, ◌∙◌, subst}
 use mathlib.Core.Bool.{Bool, true, false, ◌&&◌, and-false}
 use mathlib.Core.List.{List, [], ◌∷◌, ◌++◌, append-nil}
-use Prim.Native.Nat.{ℕ, suc, ◌+◌, ◌-◌, ◌*◌, ◌^◌, ◌<◌, ◌≤◌}
+use Prim.Native.Nat.{ℕ, suc, ◌+◌, ◌-◌, ◌*◌, ◌%◌, ◌^◌, ◌<◌, ◌≤◌}
 use native.Mathlib.Nat.{mul-one, not-suc-le-zero}
 use native.Mathlib.Omega.{arith}
 use lib.Dec.{leb, ltb}
@@ -19,9 +19,11 @@ use borrow.Author.Tests.{lt-ltb, le-ltb, ltb-true}
 use Rattle.rules.specs.Rolls.{product}
 use Rattle.rules.proofs.Facts.{clash}
 use Rattle.rules.proofs.Products.{product_snoc}
-use Rattle.rules.specs.Width.{Width}
+use Rattle.rules.specs.Width.{w64}
 use Rattle.rules.specs.Cut.{joins, cut_from, cut}
-use Rattle.lists.specs.Inner.{cut_at, begins}
+use Rattle.arithmetic.specs.Products.{wrap}
+use Rattle.rolls.specs.Plan.{begins}
+use Rattle.lists.specs.Inner.{cut_at}
 use Rattle.rules.proofs.Writing.{drop-next}
 
 abbrev pub part : List ℕ → ℕ → ℕ → List ℕ
@@ -145,9 +147,6 @@ module _ (limit : ℕ) (bs : List ℕ) (at p end : ℕ) (v : Cutting limit bs at
   no_more : end < length bs → joins limit (part bs at end) (get_or bs end 0) ≡ false → part bs at end ≡ begins (cut limit (drop at bs))
   no_more h e = ap begins (sym (ap (cut_from limit (part bs at end)) (drop-next bs end h) ∙ cut_here limit (part bs at end) (get_or bs end 0) (drop (end + 1) bs) e) ∙ v.4)
 
-  pub cut_full : end < length bs → 16 ≤ end - at → part bs at end ≡ begins (cut limit (drop at bs))
-  cut_full h k = no_more h (joined false _ (le-ltb (length (part bs at end)) 16 (rw len k)) refl)
-
   pub cut-passes : end < length bs → leb (p * get_or bs end 0) limit ≡ false → part bs at end ≡ begins (cut limit (drop at bs))
   cut-passes h e = no_more h (joined _ false refl e ∙ and-false (ltb (length (part bs at end)) 16))
 
@@ -155,17 +154,33 @@ module _ (limit : ℕ) (bs : List ℕ) (at p end : ℕ) (v : Cutting limit bs at
       → (end ≡ at + length (begins (cut limit (drop at bs)))) × (p ≡ product (begins (cut limit (drop at bs))))
   cut_end e = (omega (arith, sym len ∙ ap length e), v.3 ∙ ap product e)
 
-pub cut_found : (W : Width) (bs : List ℕ) (at p end : ℕ) → Cutting W.limit bs at p end → part bs at end ≡ begins (cut W.limit (drop at bs))
-    → record { end = end; product = p } ≡ cut_at W bs at
-cut_found W bs at p end v e = let f = cut_end W.limit bs at p end v e in λ i. record { end = f.0 i; product = f.1 i }
+-- ---- the cut that the code makes
 
--- a batch of sixteen bounds at 64 bits, where the code stops
-pub cut_filled : (bs : List ℕ) (at end : ℕ) → at < end → end < length bs → 16 ≤ end - at
+-- a product that is a word wraps to itself
+wrapped_word : (p n : ℕ) → p < 2 ^ 64 → p ≡ n → record { wrapped = p } ≡ wrap n
+wrapped_word p n h e = let f : p ≡ n % 2 ^ 64 = omega arith in ap (λ (x : ℕ). record { wrapped = x }) f
+
+pub cut_found : (bs : List ℕ) (at p end : ℕ) → p < 2 ^ 64 → Cutting (2 ^ 56) bs at p end → part bs at end ≡ begins (cut (2 ^ 56) (drop at bs))
+    → record { end = end; product = record { wrapped = p } } ≡ cut_at w64 bs at
+cut_found bs at p end h v e =
+    let f = cut_end (2 ^ 56) bs at p end v e in
+    let q = wrapped_word p _ h f.1 in
+    λ i. record { end = f.0 i; product = q i }
+
+-- the last batch of the list
+pub cut_ended : (bs : List ℕ) (at p end : ℕ) → p < 2 ^ 64 → Cutting (2 ^ 56) bs at p end → length bs ≤ end
+    → record { end = length bs; product = record { wrapped = p } } ≡ cut_at w64 bs at
+cut_ended bs at p end h v k =
+    let e : length bs ≡ end = omega arith in
+    ap (λ (n : ℕ). record { end = n; product = record { wrapped = p } }) e ∙ cut_found bs at p end h v (cut_list_ends (2 ^ 56) bs at p end v k)
+
+-- a batch of sixteen bounds, where the code stops
+pub cut_filled : (bs : List ℕ) (at end : ℕ) → at < end → end < length bs → 16 ≤ end - at → product (part bs at end) < 2 ^ 64
     → cut_from (2 ^ 56) (part bs at end) (drop end bs) ≡ cut (2 ^ 56) (drop at bs)
-    → (part bs at end ≡ begins (cut (2 ^ 56) (drop at bs))) × (length (part bs at end) ≡ end - at)
-cut_filled bs at end h k f e =
+    → (part bs at end ≡ begins (cut (2 ^ 56) (drop at bs))) × (length (part bs at end) ≡ end - at) × (product (part bs at end) % 2 ^ 64 ≡ product (part bs at end))
+cut_filled bs at end h k f l e =
     let n : length (part bs at end) ≡ end - at = length_part bs at end (omega arith) in
     let j : joins (2 ^ 56) (part bs at end) (get_or bs end 0) ≡ false
     = ap (λ (t : Bool). t && leb (product (part bs at end) * get_or bs end 0) (2 ^ 56)) (le-ltb (length (part bs at end)) 16 (rw n f)) in
     let g = ap (cut_from (2 ^ 56) (part bs at end)) (drop-next bs end k) ∙ cut_here (2 ^ 56) (part bs at end) (get_or bs end 0) (drop (end + 1) bs) j in
-    (ap begins (sym g ∙ e), n)
+    (ap begins (sym g ∙ e), n, omega arith)

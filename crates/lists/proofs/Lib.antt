@@ -1,4 +1,3 @@
 pub mod Cutting
-pub mod Filling
 pub mod Listing
 pub mod OneList

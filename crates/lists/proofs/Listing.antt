@@ -1,90 +1,87 @@
--- The batch that begins at a place of a list of bounds, as the loops over a list meet it. Assumes nothing.
+-- A list of bounds as a plan: the batches from each of its places on. Assumes nothing.
 --
---   batch_at W bs at            that batch
---   batch_within, batch_part    it lies within the list, from its place on
---   batch_rest, batch_none      the plan from a place on is its batch and the plan behind it; behind the last bound there is none
---   cut_end, cut_place          where the batch ends, as the code has it
---   cut-next                    the plan goes on there
---   cut_pos                     its product is 1 or more
---   cut-find                    the search for its word
-use mathlib.Core.Path.{◌≡◌, ap, ◌∙◌}
-use mathlib.Core.Bool.{false}
-use mathlib.Core.List.{List, [], ◌∷◌}
-use Prim.Native.Nat.{ℕ, ◌+◌, ◌-◌, ◌<◌, ◌≤◌}
+--   batch_within     the batch from a place on lies within the list
+--   unfolded_part    the rolls of its bounds, as they stand in the list
+--   list_cut         the cut that the code makes is the plan's
+--   length_list      a list has as many rolls as bounds
+--   none_behind      behind the last bound no batch is left
+use mathlib.Core.Path.{◌≡◌, sym, ap, ◌∙◌}
+use mathlib.Core.Bool.{true, false}
+use mathlib.Core.List.{List, [], ◌∷◌, ◌++◌}
+use Prim.Native.Nat.{ℕ, ◌+◌, ◌-◌, ◌^◌, ◌<◌, ◌≤◌}
 use native.Mathlib.Omega.{arith}
-use lib.ListN.{length, take, drop, get_or, length-drop, drop_of_length-le}
-use lib.Seq.{drop-drop, get_or-take, get_or-drop}
-use Rattle.rules.specs.Rolls.{product, accepted, holds_zero}
-use Rattle.rules.proofs.Products.{zero_nowhere, product_some}
-use Rattle.rules.specs.Run.{find}
+use lib.ListN.{length, drop, get_or, length-drop, drop_of_length-le}
+use lib.Seq.{drop-drop, get_or-drop}
+use Rattle.rules.specs.Rolls.{rolls, holds_zero}
+use Rattle.rules.specs.Run.{run, suffices}
 use Rattle.rules.specs.Cut.{cut}
-use Rattle.rules.specs.Width.{Width}
+use Rattle.rules.specs.Plan.{Rollable}
+use Rattle.rules.specs.Width.{w64}
+use Rattle.rules.proofs.CutPlans.{Bounded, cut-plan}
+use Rattle.rules.proofs.Joining.{length_run}
+use Rattle.rules.proofs.PinnedCut.{cut_pinned}
+use Rattle.rules.proofs.Products.{zero_nowhere}
+use Rattle.rules.proofs.Running.{rolled_by}
 use Rattle.arithmetic.specs.Products.{unwrap}
-use Rattle.arithmetic.proofs.Limits.{unwrap_some}
-use Rattle.rolls.specs.Inner.{passes}
-use Rattle.lists.specs.Inner.{cut_at, begins}
-use Rattle.lists.specs.declared.cut.Cut.{Cut}
+use Rattle.arithmetic.proofs.Limits.{unwrap_wrapped}
+use Rattle.rolls.specs.Plan.{begins, BatchAt}
+use Rattle.rolls.specs.declared.plan.Cut.{Cut}
+use Rattle.lists.specs.Inner.{cut_at}
 use Rattle.lists.proofs.Cutting.{part, Begun, begun}
-use Rattle.rolls.proofs.Searching.{find_batch}
 
-pub batch_at : Width → List ℕ → ℕ → List ℕ
-batch_at W bs at = begins (cut W.limit (drop at bs))
+-- the batches from a place on
+abbrev batches : List ℕ → ℕ → List (List ℕ)
+batches bs at = cut (2 ^ 56) (drop at bs)
 
-module _ (W : Width) (bs : List ℕ) (at : ℕ) (h : at < length bs) where
-  starts : Begun W.limit (drop at bs) (batch_at W bs at)
-  unfolding batch_at
-  starts = begun W.limit (drop at bs) (rw length-drop (omega arith))
+module _ (bs : List ℕ) (at : ℕ) (h : at < length bs) where
+  starts : Begun (2 ^ 56) (drop at bs) (begins (batches bs at))
+  starts = begun (2 ^ 56) (drop at bs) (rw length-drop (omega arith))
 
-  batch_some : 0 < length (batch_at W bs at)
-  batch_some = starts.some
-
-  pub batch_within : at + length (batch_at W bs at) ≤ length bs
+  pub batch_within : at + length (begins (batches bs at)) ≤ length bs
   batch_within = omega (arith, rw length-drop at starts.within)
 
-  pub batch_rest : cut W.limit (drop at bs) ≡ batch_at W bs at ∷ cut W.limit (drop (at + length (batch_at W bs at)) bs)
-  batch_rest = starts.rest ∙ ap (λ (l : List ℕ). batch_at W bs at ∷ cut W.limit l) (drop-drop (length (batch_at W bs at)) at bs)
+  batch_rest : batches bs at ≡ begins (batches bs at) ∷ batches bs (at + length (begins (batches bs at)))
+  batch_rest = starts.rest ∙ ap (λ (l : List ℕ). begins (batches bs at) ∷ cut (2 ^ 56) l) (drop-drop (length (begins (batches bs at))) at bs)
 
-  pub batch_part : batch_at W bs at ≡ part bs at (at + length (batch_at W bs at))
-  batch_part =
-      let n : ℕ = length (batch_at W bs at) in
-      let e : n ≡ at + n - at = omega arith in
-      starts.front ∙ ap (λ (k : ℕ). take k (drop at bs)) e
+  module _ (end : ℕ) (e : end ≡ at + length (begins (batches bs at))) where
+    batch_size : end - at ≡ length (begins (batches bs at))
+    batch_size = omega (arith, e)
 
-  batch_pos : holds_zero bs ≡ false → 0 < product (batch_at W bs at)
-  batch_pos z = product_some (batch_at W bs at) each
+    batch_part : part bs at end ≡ begins (batches bs at)
+    batch_part = rw batch_size (sym starts.front)
+
+    -- the rolls of the bounds from the place up to its end, in front of what stood there
+    pub unfolded_part : (word : ℕ) (lent out : List ℕ) → out ≡ rolls 64 (part bs at end) word ++ drop (length (part bs at end)) lent
+        → out ≡ rolls 64 (begins (batches bs at)) word ++ drop (end - at) lent
+    unfolded_part word lent out f = rw batch_size (rw batch_part at f)
+
+  -- where no bound is 0 and each is a word, the batch can be rolled
+  rollable : holds_zero bs ≡ false → ((i : ℕ) → i < length bs → get_or bs i 0 < 2 ^ 64) → Rollable (2 ^ 64) (begins (batches bs at))
+  rollable z fits = (rw batch_rest at (cut-plan (2 ^ 56) (2 ^ 64) (omega arith) (drop at bs) each).rollable).0
     where
-      each : (i : ℕ) → i < length (batch_at W bs at) → 0 < get_or (batch_at W bs at) i 0
+      each : Bounded (2 ^ 64) (drop at bs)
       each i k =
-          rw (starts.front, get_or-take (length (batch_at W bs at)) (drop at bs) i 0 k, get_or-drop)
-          (zero_nowhere bs (at + i) z (omega (arith, batch_within)))
+          let j : at + i < length bs = omega (arith, rw length-drop at k) in
+          rw get_or-drop (zero_nowhere bs (at + i) z j, omega (arith, fits (at + i) j))
+
+  pub list_cut : holds_zero bs ≡ false → ((i : ℕ) → i < length bs → get_or bs i 0 < 2 ^ 64) → (c : Cut) → c ≡ cut_at w64 bs at
+      → BatchAt (λ (place : ℕ). cut (2 ^ 56) (drop place bs)) (length bs) at c
+  list_cut z fits c e =
+      let end : c.end ≡ at + length (begins (batches bs at)) = ap (λ (x : Cut). x.end) e in
+      let r = rollable z fits in
+      record {
+        rest = rw end batch_rest;
+        end = end;
+        some = starts.some;
+        within = rw end batch_within;
+        product = ap (λ (x : Cut). unwrap 64 x.product.wrapped) e ∙ unwrap_wrapped 64 _ r.positive r.fits;
+      }
+
+pub length_list : (L limit : ℕ) (bs words : List ℕ) (start : ℕ) → suffices (run L (cut limit bs) words start) ≡ true
+    → length (rolled_by L (cut limit bs) (run L (cut limit bs) words start)) ≡ length bs
+length_list L limit bs words start e = length_run L (cut limit bs) words start e ∙ ap length (cut_pinned.holds limit bs).same
 
 -- behind the last bound no batch is left
-pub batch_none : (W : Width) (bs : List ℕ) (at : ℕ) → length bs ≤ at → cut W.limit (drop at bs) ≡ []
+pub none_behind : (limit : ℕ) (bs : List ℕ) (at : ℕ) → length bs ≤ at → cut limit (drop at bs) ≡ []
 unfolding cut
-batch_none W bs at h = rw (drop_of_length-le bs h)
-
--- the batch as the code has it: where it ends, its product, its threshold
-module _ (W : Width) (bs : List ℕ) (at : ℕ) (h : at < length bs) (z : holds_zero bs ≡ false) (c : Cut) (e : c ≡ cut_at W bs at) where
-  pub cut_end : c.end ≡ at + length (batch_at W bs at)
-  unfolding batch_at
-  cut_end = ap (λ (x : Cut). x.end) e
-
-  pub cut_place : (at < c.end) × (c.end ≤ length bs)
-  cut_place = (rw cut_end (omega (arith, batch_some W bs at h)), rw cut_end (batch_within W bs at h))
-
-  pub cut-next : cut W.limit (drop at bs) ≡ batch_at W bs at ∷ cut W.limit (drop c.end bs)
-  cut-next = rw cut_end (batch_rest W bs at h)
-
-  cut_product : c.product ≡ product (batch_at W bs at)
-  unfolding batch_at
-  cut_product = ap (λ (x : Cut). x.product) e
-
-  pub cut_pos : 0 < c.product
-  cut_pos = rw cut_product (batch_pos W bs at h z)
-
-  -- and the search for its word
-  pub cut-find : (words : List ℕ) (next : ℕ)
-      → find (passes W.bits (unwrap W.bits c.product)) words next ≡ find (accepted W.bits (batch_at W bs at)) words next
-  cut-find words next =
-      find_batch W.bits (batch_at W bs at) (unwrap W.bits c.product) (batch_some W bs at h)
-      (unwrap_some W.bits c.product (λ n. omega (arith, cut_pos)) ∙ cut_product) words next
+none_behind limit bs at h = rw (drop_of_length-le bs h)

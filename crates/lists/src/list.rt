@@ -1,50 +1,17 @@
 // A list of bounds, cut into batches.
-ghost use Rattle.std.specs.Prelude.{◌≡◌, true, false, ◌++◌, ◌≤◌, ◌^◌, length, drop};
-ghost use Rattle.rules.specs.Rolls.{holds_zero};
+ghost use Rattle.std.specs.Prelude.{◌≡◌};
 ghost use Rattle.rules.specs.Width.{w64};
-ghost use Rattle.rules.specs.Run.{run, trace, rolls_of, suffices};
-ghost use Rattle.rules.specs.Cut.{cut};
+ghost use Rattle.answers.specs.Results.{answer_of};
 ghost use Rattle.lists.specs.List.{seen_list};
 
-use super::cut::cut_at;
-use super::supply::supply_list;
-use answers::answer::{Answer, done_answer, refused_answer};
-use answers::refusal;
-use answers::supply::Supply;
-use arithmetic::bounds::has_zero;
-use rolls::search::{Search, find_word};
-use rolls::unfold::write_rolls;
+use super::bounds::Bounds;
+use answers::refusal::Refusal;
+use answers::results::Used;
+use rolls::plan::{supply, write};
+use rolls::words::Words;
 
 // The most bounds of a list.
 const MAX_BOUNDS: usize = 4096;
-
-// Writes the rolls of every batch, one after the other, to the front of the lent list, where it is known that the words suffice.
-pub fn write_list(words: &[u64], start: usize, bounds: &[u64], rolls: &mut [u64])
-    requires { (start ≤ length words.now) × (holds_zero bounds.now ≡ false) × (length bounds.now ≤ length rolls.old) × (suffices (run 64 (cut (2 ^ 56) bounds.now) words.now start) ≡ true) }
-    ensures { rolls.new ≡ rolls_of 64 (cut (2 ^ 56) bounds.now) (trace (run 64 (cut (2 ^ 56) bounds.now) words.now start)) ++ drop (length bounds.now) rolls.old }
-{
-    let mut next = start;
-    let mut at: usize = 0;
-    while at < bounds.len() {
-        let part = cut_at(bounds, at);
-        let end = part.end;
-        match find_word(words, next, part.product) {
-            Search::Hit {
-                word,
-                place,
-                rejected: _,
-            } => {
-                write_rolls(word, &bounds[at..end], &mut rolls[at..]);
-                next = place + 1;
-                at = end;
-            }
-            Search::Missing => {
-                // never reached: the words are known to suffice
-                return;
-            }
-        }
-    }
-}
 
 // A roll for each bound of the list, into the front of the lent list; the rest of it stays.
 //
@@ -55,27 +22,24 @@ pub fn write_list(words: &[u64], start: usize, bounds: &[u64], rolls: &mut [u64]
 // halves of a product for each roll. With bounds 2, 6 and words 0, 1 the rolls are 0, 0, next is 2 and one word is rejected. While
 // the rules stand the same input has the same answer.
 #[tactic(auto, using(crate::proofs::OneList::list_many))]
-pub fn roll_list(words: &[u64], start: usize, bounds: &[u64], rolls: &mut [u64]) -> Answer
-    ensures answer { result ≡ (seen_list w64 words.now start bounds.now rolls.old).0 }
+pub fn roll_list(
+    words: &[u64],
+    start: usize,
+    bounds: &[u64],
+    rolls: &mut [u64],
+) -> Result<Used, Refusal>
+    ensures answer { answer_of start result ≡ (seen_list w64 words.now start bounds.now rolls.old).0 }
     ensures rolls { rolls.new ≡ (seen_list w64 words.now start bounds.now rolls.old).1 }
 {
     if MAX_BOUNDS < bounds.len() {
-        return refused_answer(refusal::COUNT, start, 0);
+        return Err(Refusal::Count);
     }
-    if has_zero(bounds) {
-        return refused_answer(refusal::ZERO, start, 0);
-    }
+    let plan = Bounds::try_from(bounds)?;
     if rolls.len() < bounds.len() {
-        return refused_answer(refusal::ROOM, start, 0);
+        return Err(Refusal::Room);
     }
-    if words.len() < start {
-        return refused_answer(refusal::START, start, 0);
-    }
-    match supply_list(words, start, bounds) {
-        Supply::Enough { next, rejected } => {
-            write_list(words, start, bounds, rolls);
-            done_answer(next, rejected)
-        }
-        Supply::Short { batch } => refused_answer(refusal::WORDS, start, batch),
-    }
+    let words = Words::from(words, start)?;
+    let used = supply(words, &plan)?;
+    write(words, &plan, rolls);
+    Ok(used)
 }

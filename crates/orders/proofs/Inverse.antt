@@ -3,7 +3,7 @@
 --
 --   Inverting                    with m records still to place: the list as it stands, its marks, and what the lent list holds
 --   invert_start                 before the first turn
---   Looked, invert_look          what a turn reads: a mark, and the record that is moved
+--   looked                       what a turn reads fits: a record's mark, and the record that is moved
 --   Moved, move_none, move_one   the lent list with that record moved
 --   invert_turn                  one turn
 --   invert_done                  with one record or none still to place the rolls are written
@@ -101,38 +101,32 @@ within marks v p = go (dec_lt v (length marks))
     go (yes h) = h
     go (no h) = absurd (let z : ⊥ = omega (arith, get_or-eq_default marks 0 {n = v} (omega arith)) in z)
 
--- what a turn reads: the mark of the record that place m - 1 is to get, and the record that stands there
-pub record Looked (ys marks out : List ℕ) (m : ℕ) : Type 0 where
-  pub inside : m ≤ length ys
-  pub record_fits : get_or ys (m - 1) 0 < length marks
-  pub some : 0 < get_or marks (get_or ys (m - 1) 0) 0
-  pub most : get_or marks (get_or ys (m - 1) 0) 0 ≤ m
-  pub last_fits : get_or out (length ys - m) 0 < length marks
-
 module _ {ys out₀ marks out : List ℕ} {m : ℕ} (w : Inverting ys out₀ marks out m) where
   module _ (l : 1 < m) where
-    inside : m ≤ length ys
+    pub inside : m ≤ length ys
     inside = omega (arith, w.midway.fits, w.midway.reorders.same_length)
 
     mark : get_or marks (get_or ys (m - 1) 0) 0 ≡ place_of (get_or ys (m - 1) 0) w.xs + 1
     mark = let a = midway_roll w.midway l in rw a.1 at (w.inverse _ a.0)
 
-    last : get_or out (length ys - m) 0 ≡ get_or w.xs (m - 1) 0
-    last =
-        let e : length ys - 1 - (m - 1) ≡ length ys - m = omega arith in
-        rw e at (w.standing (m - 1) (omega arith) (omega arith))
+    last : get_or out (length ys - 1 - (m - 1)) 0 ≡ get_or w.xs (m - 1) 0
+    last = w.standing (m - 1) (omega arith) (omega arith)
 
-    pub invert_look : Looked ys marks out m
-    invert_look = record {
-      inside = inside;
-      record_fits = within marks (get_or ys (m - 1) 0) (omega (arith, mark));
-      some = omega (arith, mark);
-      most = omega (arith, mark, (midway_roll w.midway l).0);
-      last_fits = within marks (get_or out (length ys - m) 0) (rw last (omega (arith, w.inverse (m - 1) (omega arith))));
-    }
+    -- what a turn reads: the mark of the record that place m - 1 is to get, and the record that stands there
+    pub look_record : get_or ys (m - 1) 0 < length marks
+    look_record = within marks (get_or ys (m - 1) 0) (omega (arith, mark))
+
+    pub look_some : 0 < get_or marks (get_or ys (m - 1) 0) 0
+    look_some = omega (arith, mark)
+
+    pub look_most : get_or marks (get_or ys (m - 1) 0) 0 ≤ m
+    look_most = omega (arith, mark, (midway_roll w.midway l).0)
+
+    pub look_last : get_or out (length ys - 1 - (m - 1)) 0 < length marks
+    look_last = within marks (get_or out (length ys - 1 - (m - 1)) 0) (rw last (omega (arith, w.inverse (m - 1) (omega arith))))
 
     -- the roll r and the record v that it moves
-    module _ (r v : ℕ) (e : r ≡ get_or marks (get_or ys (m - 1) 0) 0 - 1) (f : v ≡ get_or out (length ys - m) 0) where
+    module _ (r v : ℕ) (e : r ≡ get_or marks (get_or ys (m - 1) 0) 0 - 1) (f : v ≡ get_or out (length ys - 1 - (m - 1)) 0) where
       is_roll : place_of (get_or ys (m - 1) 0) w.xs ≡ r
       is_roll = omega (arith, mark)
 
@@ -152,7 +146,7 @@ module _ {ys out₀ marks out : List ℕ} {m : ℕ} (w : Inverting ys out₀ mar
       inverse i h = go (ℕ_discrete i r)
         where
           go : Dec (i ≡ r) → get_or (set marks v (r + 1)) (get_or (exchange w.xs r (m - 1)) i 0) 0 ≡ i + 1
-          go (yes d) = rw (d, comes) (get_or-set_same marks v (r + 1) 0 (rw f invert_look.last_fits))
+          go (yes d) = rw (d, comes) (get_or-set_same marks v (r + 1) 0 (rw f look_last))
           go (no d) =
               let other : get_or w.xs i 0 ≢ v = λ g.
               let same = w.midway.distinct i (m - 1) (omega (arith, w.midway.fits)) (omega (arith, w.midway.fits)) (g ∙ is_last) in
@@ -161,23 +155,24 @@ module _ {ys out₀ marks out : List ℕ} {m : ℕ} (w : Inverting ys out₀ mar
 
       module _ (mid : List ℕ) (moved : Moved (length ys) m r v out mid) where
         standing : (i : ℕ) → 0 < i → i < m - 1
-            → get_or (set mid (length ys - m) r) (length ys - 1 - i) 0 ≡ get_or (exchange w.xs r (m - 1)) i 0
+            → get_or (set mid (length ys - 1 - (m - 1)) r) (length ys - 1 - i) 0 ≡ get_or (exchange w.xs r (m - 1)) i 0
         standing i p h =
-            get_or-set_other mid (length ys - m) (length ys - 1 - i) r 0 (omega (arith, inside)) ∙ go (ℕ_discrete i r)
+            get_or-set_other mid (length ys - 1 - (m - 1)) (length ys - 1 - i) r 0 (omega (arith, inside)) ∙ go (ℕ_discrete i r)
           where
             go : Dec (i ≡ r) → get_or mid (length ys - 1 - i) 0 ≡ get_or (exchange w.xs r (m - 1)) i 0
             go (yes d) = rw (d, comes) (moved.here (omega arith))
             go (no d) = moved.others i h d ∙ w.standing i p (omega arith) ∙ sym (stays i h d)
 
-        rolled : take (length ys - (m - 1)) (set mid (length ys - m) r) ++ rolls_into (m - 1) (exchange w.xs r (m - 1)) ys
+        rolled : take (length ys - (m - 1)) (set mid (length ys - 1 - (m - 1)) r) ++ rolls_into (m - 1) (exchange w.xs r (m - 1)) ys
             ≡ rolls_into (length ys) (countup (length ys) 0) ys
         rolled =
+            let here : length ys - 1 - (m - 1) ≡ length ys - m = omega arith in
             let one : length ys - (m - 1) ≡ length ys - m + 1 = omega (arith, inside) in
             let h : length ys - m < length mid = omega (arith, inside, w.room, moved.same_length) in
-            rw (one, stored_front mid (length ys - m) r h, append_assoc, moved.front)
+            rw (here, one, stored_front mid (length ys - m) r h, append_assoc, moved.front)
             (rw (rolls_into_step m w.xs ys l, is_roll) at w.rolled)
 
-        pub invert_turn : Inverting ys out₀ (set marks v (r + 1)) (set mid (length ys - m) r) (m - 1)
+        pub invert_turn : Inverting ys out₀ (set marks v (r + 1)) (set mid (length ys - 1 - (m - 1)) r) (m - 1)
         invert_turn = record {
           xs = exchange w.xs r (m - 1);
           midway = midway_step w.midway r l below (rw is_roll at (midway_roll w.midway l).1);
@@ -187,7 +182,7 @@ module _ {ys out₀ marks out : List ℕ} {m : ℕ} (w : Inverting ys out₀ mar
           inverse = inverse;
           standing = standing;
           rolled = rolled;
-          rest = drop-set-lt (length ys - 1) mid (length ys - m) r (omega (arith, inside)) ∙ moved.back ∙ w.rest;
+          rest = drop-set-lt (length ys - 1) mid (length ys - 1 - (m - 1)) r (omega (arith, inside)) ∙ moved.back ∙ w.rest;
         }
 
   pub invert_done : m ≤ 1 → out ≡ rolls_into (length ys) (countup (length ys) 0) ys ++ drop (length ys - 1) out₀
@@ -196,3 +191,6 @@ module _ {ys out₀ marks out : List ℕ} {m : ℕ} (w : Inverting ys out₀ mar
       let front : take (length ys - 1) out ≡ rolls_into (length ys) (countup (length ys) 0) ys
       = sym (append-nil (take (length ys - 1) out)) ∙ (rw (e, rolls_into_none m w.xs ys h) at w.rolled) in
       sym (take-append-drop (length ys - 1) out) ∙ rw (front, w.rest)
+
+-- what a turn reads fits
+pub ruleset looked = (inside, look_record, look_some, look_most, look_last)

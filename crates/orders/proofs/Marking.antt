@@ -3,24 +3,21 @@
 --
 --   Marking                       the first i numbers of the list are below n, different and marked, and no other number is marked
 --   unmarked                      a table of zeros has no mark
---   mark_none, mark_turn          before the first turn, and one turn
 --   mark_large, mark_twice        a number that is too large, or marked already: not an order
 --   mark_done, mark_places_lem    all marked: an order, and the mark of each of 0 .. n - 1 is its place, counted from 1
-use mathlib.Core.Path.{◌≡◌, refl, sym, ap, ◌∙◌}
+use mathlib.Core.Path.{◌≡◌, refl, sym}
 use mathlib.Core.Logic.{◌≢◌}
 use mathlib.Core.Bool.{Bool, true, false}
 use mathlib.Core.List.{List}
 use Prim.Native.Nat.{ℕ, zero, suc, ◌+◌, ◌<◌, ◌≤◌}
-use native.Mathlib.Decide.{ℕ_discrete, dec_lt}
+use native.Mathlib.Decide.{dec_lt}
 use native.Mathlib.Omega.{arith}
 use lib.Dec.{T}
-use lib.ListN.{length, get_or, set, replicate}
-use lib.Seq.{get_or-set_same, get_or-set_other}
-use borrow.Author.Count.{below_none, below_more}
+use lib.ListN.{length, get_or, replicate}
 use Rattle.rules.specs.Order.{is_order, Distinct}
 use Rattle.rules.proofs.Each.{order_iff, order_among}
 
--- ---- the test, as the code has it
+-- ---- the test, as the contract has it
 
 is_true : (b : Bool) → T b → b ≡ true
 is_true true t = refl
@@ -44,33 +41,7 @@ unmarked zero v = refl
 unmarked (suc n) zero = refl
 unmarked (suc n) (suc v) = unmarked n v
 
-pub mark_none : (ys marks : List ℕ) → ((v : ℕ) → get_or marks v 0 ≡ 0) → Marking ys marks 0
-mark_none ys marks z = record {
-  marked = below_none _;
-  met = λ v n. absurd (n (z v));
-  below = below_none _;
-  different = below_none _;
-}
-
 module _ {ys marks : List ℕ} {i : ℕ} (w : Marking ys marks i) where
-  pub mark_turn : get_or ys i 0 < length ys → length ys ≤ length marks → get_or marks (get_or ys i 0) 0 ≡ 0
-      → Marking ys (set marks (get_or ys i 0) (get_or ys i 0 + 1)) (i + 1)
-  mark_turn b room new =
-      let x : ℕ = get_or ys i 0 in
-      let h : x < length marks = omega arith in
-      let same : get_or (set marks x (x + 1)) x 0 ≡ x + 1 = get_or-set_same marks x (x + 1) 0 h in
-      let other : (v : ℕ) → v ≢ x → get_or (set marks x (x + 1)) v 0 ≡ get_or marks v 0 = λ v n. get_or-set_other marks x v (x + 1) 0 n in
-      let fresh : (k : ℕ) → k < i → get_or ys k 0 ≢ x = λ k l e. omega (arith, w.marked k l, ap (λ (v : ℕ). get_or marks v 0) e) in
-      record {
-        marked = below_more _ i (λ k l. other (get_or ys k 0) (fresh k l) ∙ w.marked k l) same;
-        met = λ v n. elim (ℕ_discrete v x) [
-          | yes e ↦ (i, omega arith, sym e)
-          | no m ↦ let s = w.met v (λ e. n (other v m ∙ e)) in (s.0, omega (arith, s.1), s.2)
-        ];
-        below = below_more _ i w.below b;
-        different = below_more _ i w.different fresh;
-      }
-
   module _ (h : i < length ys) where
     pub mark_large : length ys ≤ get_or ys i 0 → is_order ys ≡ false
     mark_large l = is_false (is_order ys) (λ t. omega (arith, ((order_iff ys).0 t).0 i h))
@@ -97,3 +68,6 @@ module _ {ys marks : List ℕ} {i : ℕ} (w : Marking ys marks i) where
 
     pub mark_places_lem : (v : ℕ) → v < length ys → get_or marks v 0 ≡ v + 1
     mark_places_lem v l = let (k, m, e) = order_among ys order v l in rw e at (w.marked k (omega arith))
+
+-- what each way out of the loop tells
+pub ruleset ways_out = (mark_large, mark_twice, mark_done, mark_places_lem)

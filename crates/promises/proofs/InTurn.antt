@@ -29,7 +29,7 @@ use Rattle.rules.proofs.Writing.{whole_list}
 use Rattle.answers.specs.Outcome.{Outcome, refused, done, decide, from_run, of_words, shown, left, seen}
 use Rattle.answers.specs.Supplied.{supplied, answered}
 use Rattle.answers.specs.declared.answer.Answer.{Answer}
-use Rattle.answers.specs.declared.supply.Supply.TheVariants.{Enough}
+use Rattle.std.specs.Prelude.{Ok}
 use Rattle.answers.proofs.Deciding.{decide_past, in_count, supplied_enough, no_words, words_done, words_short}
 use Rattle.answers.proofs.Supplies.{second_used, second_short, both_enough}
 use Rattle.lists.specs.List.{roll_list}
@@ -117,7 +117,7 @@ module _ (W : Width) (words : List ℕ) (start : ℕ) (xs : List ℕ) (k : ℕ) 
     abbrev list_done : Answer
     list_done = shown start (done js ts)
 
-    supply : supplied start (run L p words start) ≡ Enough from (rejected start ts)
+    supply : supplied start (run L p words start) ≡ Ok (record { next = from; rejected = rejected start ts })
     supply = ap (supplied start) e
 
     rolled : length js ≡ m

@@ -21,7 +21,7 @@ use Rattle.draws.specs.Sample.{sample}
 use Rattle.sheet.specs.Sheet.{Numbers, numbers, words_of, records_of}
 use Rattle.sheet.specs.ReadSheet.{read_refusals, drawn_by, shown_drawn, seen_read}
 use Rattle.sheet.specs.RunSheet.{run_sheet}
-use Rattle.sheet.specs.declared.read.Drawn.{Drawn}
+use Rattle.sheet.specs.declared.drawn.Drawn.{Drawn}
 use Rattle.sheet.proofs.Reading.{length_words, length_records}
 use Rattle.promises.specs.Demand1.{first_of}
 use Rattle.promises.specs.Demand2.{Allowed}

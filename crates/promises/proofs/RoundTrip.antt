@@ -24,11 +24,11 @@ use Rattle.draws.specs.Sample.{sample}
 use Rattle.sheet.specs.Sheet.{Numbers, numbers, words_of, records_of, Sound, is_sound_sheet, is_wrong_size}
 use Rattle.sheet.specs.ReadSheet.{unreadable, seen_read}
 use Rattle.sheet.specs.RunSheet.{run_sheet}
-use Rattle.sheet.specs.declared.read.Drawn.{Drawn}
+use Rattle.sheet.specs.declared.drawn.Drawn.{Drawn}
 use Rattle.sheet.proofs.Reading.{length_words, length_records, size_right}
 use Rattle.sheet.proofs.Soundness.{sound_known, sound_iff, sheet_parts}
 use Rattle.writer.specs.WriteSheet.{length_of, written, write_refusals, seen_write}
-use Rattle.writer.specs.declared.write.Written.{Written}
+use Rattle.writer.specs.declared.written.Written.{Written}
 use Rattle.writer.proofs.Laid.{length-written, Fitting, written-numbers, written_words, written_records, written_sound}
 use Rattle.promises.specs.Demand1.{first_of}
 use Rattle.promises.specs.Demand2.{Allowed}

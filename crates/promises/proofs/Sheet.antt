@@ -33,7 +33,7 @@ use Rattle.draws.specs.Sample.{sample_plan, sampled}
 use Rattle.sheet.specs.Sheet.{Numbers, numbers, words_of, records_of, is_sound_sheet}
 use Rattle.sheet.specs.ReadSheet.{unreadable, drawn_by, shown_drawn}
 use Rattle.sheet.specs.RunSheet.{sheet_refusals, seen_sheet}
-use Rattle.sheet.specs.declared.read.Drawn.{Drawn}
+use Rattle.sheet.specs.declared.drawn.Drawn.{Drawn}
 use Rattle.sheet.proofs.Reading.{length_records, right_size}
 use Rattle.sheet.proofs.Running.{sheet_flat}
 use Rattle.sheet.proofs.Soundness.{sound_known, sound_iff, sheet_records}

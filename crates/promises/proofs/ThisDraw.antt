@@ -40,7 +40,7 @@ use Rattle.reasons.specs.Happened.{Holds}
 use Rattle.reasons.specs.Why.{why_refusals, why, told, shown_why, seen_why}
 use Rattle.reasons.specs.declared.fate.Fate.{Fate}
 use Rattle.reasons.specs.declared.fate.Fate.TheVariants as fate
-use Rattle.reasons.specs.declared.why.Reason.{Reason}
+use Rattle.reasons.specs.declared.reason.Reason.{Reason}
 use Rattle.reasons.proofs.Fates.{fate_drawn, fate_next, taken_range}
 use Rattle.reasons.proofs.Finals.{roll_count, final_ends, final_only, final-from}
 use Rattle.reasons.proofs.Pinned.{reasons_pinned}

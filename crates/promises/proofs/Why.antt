@@ -33,7 +33,7 @@ use Rattle.reasons.specs.Happened.{HeldUntil, Happened, EndsIn, Tells}
 use Rattle.reasons.specs.Why.{why_refusals, why, told, shown_why, seen_why}
 use Rattle.reasons.specs.declared.fate.Fate.{Fate}
 use Rattle.reasons.specs.declared.fate.Fate.TheVariants as fate
-use Rattle.reasons.specs.declared.why.Reason.{Reason}
+use Rattle.reasons.specs.declared.reason.Reason.{Reason}
 use Rattle.reasons.proofs.Fates.{fate_happened, fate_only, fate_drawn}
 use Rattle.reasons.proofs.Finals.{roll_count, final_ends, final_only}
 use Rattle.reasons.proofs.Pinned.{reasons_pinned}

@@ -14,7 +14,7 @@ use lib.Seq.{drop_at}
 use borrow.Author.Tests.{ltb-false}
 use Rattle.answers.specs.Outcome.{Outcome, done, left}
 use Rattle.writer.specs.WriteSheet.{length_of, written, write_refusals, write_sheet, shown_written, seen_write}
-use Rattle.writer.specs.declared.write.Written.{Written}
+use Rattle.writer.specs.declared.written.Written.{Written}
 use Rattle.writer.proofs.Laid.{length-written, Fitting, laid_six, laid_words, laid_records, written_known}
 use Rattle.sheet.proofs.Reading.{right_size}
 use Rattle.promises.specs.Demand1.{first_of}

@@ -15,7 +15,7 @@ use Rattle.rules.specs.Width.{w64}
 use Rattle.sheet.specs.ReadSheet.{read_refusals, drawn_by, shown_drawn, seen_read}
 use Rattle.sheet.specs.RunSheet.{seen_sheet}
 use Rattle.sheet.specs.Sheet.{Numbers, numbers, words_of, records_of, Sound}
-use Rattle.sheet.specs.declared.read.Drawn.{Drawn}
+use Rattle.sheet.specs.declared.drawn.Drawn.{Drawn}
 use Rattle.promises.specs.Demand1.{AsRefused, Which, numbers_of}
 use Rattle.promises.specs.Demand2.{Allowed}
 use Rattle.promises.specs.Sheet.{Bytes, RightSize}

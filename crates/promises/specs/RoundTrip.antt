@@ -15,9 +15,9 @@ use Rattle.draws.specs.Sample.{sample}
 use Rattle.sheet.specs.Sheet.{numbers, words_of, records_of, Sound}
 use Rattle.sheet.specs.ReadSheet.{seen_read}
 use Rattle.sheet.specs.RunSheet.{run_sheet}
-use Rattle.sheet.specs.declared.read.Drawn.{Drawn}
+use Rattle.sheet.specs.declared.drawn.Drawn.{Drawn}
 use Rattle.writer.specs.WriteSheet.{written, seen_write}
-use Rattle.writer.specs.declared.write.Written.{Written}
+use Rattle.writer.specs.declared.written.Written.{Written}
 use Rattle.promises.specs.Examples.{same, done, refused, all}
 use Rattle.promises.specs.Sheet.{Bytes}
 use Rattle.promises.specs.Write.{Callable}

@@ -25,7 +25,7 @@ use Rattle.sheet.specs.Sheet.{Numbers, numbers, words_of, records_of, is_sound_s
 use Rattle.sheet.specs.Sheet as sheet
 use Rattle.sheet.specs.ReadSheet.{drawn_by, shown_drawn}
 use Rattle.sheet.specs.RunSheet.{sheet_refusals, seen_sheet}
-use Rattle.sheet.specs.declared.read.Drawn.{Drawn}
+use Rattle.sheet.specs.declared.drawn.Drawn.{Drawn}
 use Rattle.promises.specs.Demand1.{AsRefused, Which, numbers_of, NamesBatch}
 use Rattle.promises.specs.Demand2.{Allowed, ByMethod}
 

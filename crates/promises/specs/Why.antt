@@ -24,11 +24,11 @@ use Rattle.rules.specs.Width.{Width, w64}
 use Rattle.draws.specs.Sample.{sample_plan, seen_sample}
 use Rattle.sheet.specs.Sheet.{Numbers, numbers, words_of, records_of, Sound}
 use Rattle.sheet.specs.RunSheet.{seen_sheet}
-use Rattle.sheet.specs.declared.read.Drawn.{Drawn}
+use Rattle.sheet.specs.declared.drawn.Drawn.{Drawn}
 use Rattle.writer.specs.WriteSheet.{written}
 use Rattle.reasons.specs.Happened.{Tells}
 use Rattle.reasons.specs.Why.{why_refusals, shown_why, seen_why}
-use Rattle.reasons.specs.declared.why.Reason.{Reason}
+use Rattle.reasons.specs.declared.reason.Reason.{Reason}
 use Rattle.promises.specs.Demand1.{AsRefused, Which, numbers_of}
 use Rattle.promises.specs.Demand2.{Allowed, Lemire}
 use Rattle.promises.specs.Examples.{same, all}

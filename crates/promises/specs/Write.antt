@@ -16,7 +16,7 @@ use Rattle.std.specs.Prelude.{◌≡◌, ◌≢◌, List, [], ◌∷◌, ℕ, �
 use Rattle.rules.specs.Order.{AllBelow}
 use Rattle.areas.specs.Pinned.{Area}
 use Rattle.writer.specs.WriteSheet.{write_refusals, shown_written, seen_write}
-use Rattle.writer.specs.declared.write.Written.{Written}
+use Rattle.writer.specs.declared.written.Written.{Written}
 use Rattle.promises.specs.Demand1.{AsRefused, Which, numbers_of}
 use Rattle.promises.specs.Demand2.{Allowed}
 use Rattle.promises.specs.Sheet.{RightSize}

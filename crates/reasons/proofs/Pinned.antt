@@ -17,7 +17,7 @@ use Rattle.reasons.specs.Pinned.{ReasonsPinned}
 use Rattle.reasons.specs.Why.{told, shown_why}
 use Rattle.reasons.specs.declared.fate.Fate.{Fate}
 use Rattle.reasons.specs.declared.fate.Fate.TheVariants.{Stayed, RolledIn, Taken, PassedOver}
-use Rattle.reasons.specs.declared.why.Reason.{Reason}
+use Rattle.reasons.specs.declared.reason.Reason.{Reason}
 use Rattle.reasons.proofs.Slots.{slots-first, slots_gets, slots_stays, slots-last}
 use Rattle.reasons.proofs.Fates.{fate_happened, fate_only, fate_drawn}
 use Rattle.reasons.proofs.Finals.{roll_count, final_ends, final_only}

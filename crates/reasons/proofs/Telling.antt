@@ -1,31 +1,33 @@
 -- What the caller of why sees. Assumes nothing.
 --
---   told-done, told-short       the sample was rolled, or its words did not suffice
---   told_slot                   a reason with a final slot
+--   told-done, told-refused     the sample was rolled, or its words did not suffice
 --   why_unread                  the sheet was not read: refused as the reading was
 --   seen_past, seen_read_lem    it was: refused by 7, or what is told of its sample
-use mathlib.Core.Path.{◌≡◌, sym, ap, ap₂, ◌∙◌}
+use mathlib.Core.Path.{◌≡◌, refl, sym, ap, ap₂, ◌∙◌}
 use mathlib.Core.List.{List}
 use Prim.Native.Nat.{ℕ, ◌-◌, ◌<◌, ◌≤◌}
 use lib.ListN.{take, drop}
 use borrow.Author.Tests.{le-leb, lt-leb}
-use Rattle.rules.specs.Run.{run, trace, rolls_of}
+use Rattle.rules.proofs.Facts.{clash}
+use Rattle.rules.specs.Run.{Run, ran, short, run, trace, rolls_of}
 use Rattle.rules.specs.Width.{w64}
 use Rattle.answers.specs.Outcome.{Outcome, refused, decide, from_run}
 use Rattle.answers.specs.Supplied.{supplied}
-use Rattle.answers.specs.declared.supply.Supply.TheVariants.{Enough, Short}
+use Rattle.std.specs.Prelude.{Ok, Err}
+use Rattle.answers.specs.declared.refusal.Refusal.{Refusal}
+use Rattle.answers.specs.declared.refusal.Refusal.TheVariants.{Words}
+use Rattle.reasons.specs.Results.{reason_of}
 use Rattle.answers.proofs.Deciding.{decide_here, decide_past, decide-append, supplied_enough}
 use Rattle.draws.specs.Inner.{rolled_sample}
 use Rattle.draws.specs.Sample.{sample_plan}
 use Rattle.draws.proofs.Rolled.{rolled-short, rolled-done}
 use Rattle.sheet.specs.ReadSheet.{unreadable}
 use Rattle.sheet.specs.Sheet.{numbers, words_of}
-use Rattle.sheet.specs.declared.read.Drawn.{Drawn}
+use Rattle.sheet.specs.declared.drawn.Drawn.{Drawn}
 use Rattle.sheet.proofs.Drawing.{Held, words_front}
 use Rattle.reasons.specs.Fate.{fate_of_place, final_slot_of}
 use Rattle.reasons.specs.Why.{why_refusals, why, told, shown_why, seen_why}
-use Rattle.reasons.specs.declared.fate.Fate.{Fate}
-use Rattle.reasons.specs.declared.why.Reason.{Reason}
+use Rattle.reasons.specs.declared.reason.Reason.{Reason}
 
 module _ (words : List ℕ) (n k place : ℕ) (r : Reason) where
   abbrev plan : List (List ℕ)
@@ -35,7 +37,7 @@ module _ (words : List ℕ) (n k place : ℕ) (r : Reason) where
   abbrev told_by : ℕ → ℕ → List ℕ → Reason
   told_by to more rolls = told to more (final_slot_of k (drop (n - k) rolls)) (fate_of_place k (take (n - k) rolls) place)
 
-  pub told-done : (to more : ℕ) → supplied 0 (run 64 plan words 0) ≡ Enough to more
+  pub told-done : (to more : ℕ) → supplied 0 (run 64 plan words 0) ≡ Ok (record { next = to; rejected = more })
       → (rolls : List ℕ) → rolls ≡ rolls_of 64 plan (trace (run 64 plan words 0)) → r ≡ told_by to more rolls
       → r ≡ shown_why n k place (rolled_sample w64 words 0 n k)
   told-done to more e rolls f t =
@@ -44,15 +46,15 @@ module _ (words : List ℕ) (n k place : ℕ) (r : Reason) where
       ∙ ap₂ (λ (a b : ℕ). told_by a b (rolls_of 64 plan (trace (run 64 plan words 0)))) (sym v.place) (sym v.passed)
       ∙ sym (ap (shown_why n k place) (rolled-done words 0 n k to more e))
 
-  pub told-short : (j : ℕ) → supplied 0 (run 64 plan words 0) ≡ Short j
-      → r ≡ shown_why 0 0 0 (refused 10 j) → r ≡ shown_why n k place (rolled_sample w64 words 0 n k)
-  told-short j e t = t ∙ sym (ap (shown_why n k place) (rolled-short words 0 n k j e))
-
--- a reason with a final slot, as it is filled in
-pub told_slot : (next rejected : ℕ) (final : ℕ → ℕ) (slot at : ℕ) (fate drawn : Fate) → at ≡ final slot → fate ≡ drawn
-    → told next rejected (λ j. final slot) drawn ≡ told next rejected final drawn → told next rejected (λ j. at) drawn ≡ told next rejected final fate
-told_slot next rejected final slot at fate drawn e f same =
-    ap (λ (m : ℕ). told next rejected (λ j. m) drawn) e ∙ same ∙ sym (ap (told next rejected final) f)
+pub told-refused : (words : List ℕ) (n k place : ℕ) (r : Refusal) → supplied 0 (run 64 (sample_plan w64 n k) words 0) ≡ Err r
+    → reason_of (Err r) ≡ shown_why n k place (rolled_sample w64 words 0 n k)
+told-refused words n k place r e = go (run 64 (sample_plan w64 n k) words 0) refl e
+  where
+    go : (x : Run) → run 64 (sample_plan w64 n k) words 0 ≡ x → supplied 0 x ≡ Err r → reason_of (Err r) ≡ shown_why n k place (rolled_sample w64 words 0 n k)
+    go (ran ts) f g = clash cc
+    go (short j) f g =
+        let same : r ≡ Words j = cc in
+        ap (λ (x : Refusal). reason_of (Err x)) same ∙ sym (ap (shown_why n k place) (rolled-short words 0 n k j (ap (supplied 0) f)))
 
 -- ---- of a sheet
 

@@ -17,7 +17,7 @@ use Rattle.rules.specs.Reservoir.{countup, reservoir}
 use Rattle.rules.specs.Sample.{sample_with}
 use Rattle.reasons.specs.declared.fate.Fate.{Fate}
 use Rattle.reasons.specs.declared.fate.Fate.TheVariants.{Stayed, RolledIn, Taken, PassedOver}
-use Rattle.reasons.specs.declared.why.Reason.{Reason}
+use Rattle.reasons.specs.declared.reason.Reason.{Reason}
 
 abbrev pub slots_after : ℕ → List ℕ → ℕ → List ℕ
 slots_after k js t = reservoir (countup k 0) (countup t k) (take t js)

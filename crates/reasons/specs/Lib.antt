@@ -1,4 +1,5 @@
 pub mod Fate
 pub mod Happened
 pub mod Pinned
+pub mod Results
 pub mod Why

@@ -16,7 +16,7 @@ use Rattle.reasons.specs.Happened.{slots_after, Holds, Happened, EndsIn, Tells}
 use Rattle.reasons.specs.Why.{told, shown_why}
 use Rattle.reasons.specs.declared.fate.Fate.{Fate}
 use Rattle.reasons.specs.declared.fate.Fate.TheVariants.{Stayed, RolledIn}
-use Rattle.reasons.specs.declared.why.Reason.{Reason}
+use Rattle.reasons.specs.declared.reason.Reason.{Reason}
 
 pub record SlotsPinned (k : ℕ) (rolls : List ℕ) : Type 0 where
   -- "Put the first k records in slots 0..k - 1."

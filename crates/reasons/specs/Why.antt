@@ -15,7 +15,7 @@ use Rattle.sheet.specs.Sheet.{numbers, words_of}
 use Rattle.reasons.specs.Fate.{fate_of_place, final_slot_of}
 use Rattle.reasons.specs.declared.fate.Fate.{Fate}
 use Rattle.reasons.specs.declared.fate.Fate.TheVariants.{Stayed, RolledIn, Taken, PassedOver}
-use Rattle.reasons.specs.declared.why.Reason.{Reason}
+use Rattle.reasons.specs.declared.reason.Reason.{Reason}
 
 -- "Refusals: 1, 3 and 10 as on a sheet, and 7 when the place isn't below n, the lowest first."
 abbrev pub why_refusals : Width → List ℕ → ℕ → List Refusal

@@ -3,10 +3,10 @@
 ghost use Rattle.std.specs.Prelude.{◌≡◌, true, ◌+◌, ◌<◌, ◌≤◌, length};
 ghost use Rattle.rules.specs.Rolls.{in_range};
 ghost use Rattle.rules.specs.Shuffle.{shuffle_bounds};
-ghost use Rattle.reasons.specs.Fate.{first_from, fate_of_place, final_slot_of};
+ghost use Rattle.reasons.specs.Fate.{first_step, fate_of_place, final_slot_of};
 
 // The one reason why a place was drawn or not. Slots, places and steps are counted from 0; place i, from k on, has step i - k.
-#[derive(Drop)]
+#[derive(Clone, Copy, Debug, PartialEq, Eq)]
 pub enum Fate {
     // it was among the first k and stayed
     Stayed {
@@ -28,19 +28,13 @@ pub enum Fate {
     },
 }
 
-// The first step, from a step on, whose roll is the slot; the number of steps where there is none.
-fn first_roll(rolls: &[u64], from: usize, slot: u64) -> usize
+// The first step, from a step on, whose roll is the slot.
+fn first_roll(rolls: &[u64], from: usize, slot: u64) -> Option<usize>
     requires { from ≤ length rolls.now }
-    ensures { result ≡ first_from slot rolls.now from }
+    ensures { result ≡ first_step slot rolls.now from }
 {
-    let mut step = from;
-    while step < rolls.len() {
-        if rolls[step] == slot {
-            break;
-        }
-        step += 1;
-    }
-    step
+    let later = rolls[from..].iter().position(|&roll| roll == slot)?;
+    Some(from + later)
 }
 
 // What became of a place in a draw of k, by the rolls of the reservoir.
@@ -49,30 +43,28 @@ pub fn fate_of(rolls: &[u64], k: usize, place: usize) -> Fate
     ensures { result ≡ fate_of_place k rolls.now place }
 {
     if place < k {
-        let step = first_roll(rolls, 0, place as u64);
-        if step < rolls.len() {
-            return Fate::Taken {
+        return match first_roll(rolls, 0, place as u64) {
+            Some(step) => Fate::Taken {
                 slot: place,
                 by_place: k + step,
                 by_step: step,
-            };
-        }
-        return Fate::Stayed { slot: place };
+            },
+            None => Fate::Stayed { slot: place },
+        };
     }
     let roll = rolls[place - k];
     if k as u64 <= roll {
         return Fate::PassedOver { roll };
     }
     let slot = roll as usize;
-    let step = first_roll(rolls, place - k + 1, roll);
-    if step < rolls.len() {
-        return Fate::Taken {
+    match first_roll(rolls, place - k + 1, roll) {
+        Some(step) => Fate::Taken {
             slot,
             by_place: k + step,
             by_step: step,
-        };
+        },
+        None => Fate::RolledIn { slot },
     }
-    Fate::RolledIn { slot }
 }
 
 // Where the final shuffle of k slots, by these rolls, puts what a slot holds.
@@ -81,16 +73,14 @@ pub fn final_slot(rolls: &[u64], k: usize, slot: usize) -> usize
     ensures { result ≡ final_slot_of k rolls.now slot }
 {
     let mut at = slot;
-    let mut i: usize = 0;
-    while i < rolls.len() {
-        let roll = rolls[i] as usize;
+    for (i, &roll) in rolls.iter().enumerate() {
+        let roll = roll as usize;
         let last = k - 1 - i;
         if at == roll {
             at = last;
         } else if at == last {
             at = roll;
         }
-        i += 1;
     }
     at
 }

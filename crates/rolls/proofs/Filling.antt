@@ -2,10 +2,11 @@
 -- nothing.
 --
 --   Filling               the rolls of the batches before those that are left are written
---   fill_none, fill_hit   before the first turn, and one turn
+--   fill_none, fill_cut   before the first turn, and one turn
 --   fill_never            no word is missing
---   fill_done             the rolls of the whole plan are written
-use mathlib.Core.Path.{◌≡◌, refl, sym, ap, ◌∙◌}
+--   fill_all              the rolls of the whole plan are written
+use Rattle.std.specs.Prelude.{Some, None}
+use mathlib.Core.Path.{◌≡◌, refl, sym, ap, ◌∙◌, subst}
 use mathlib.Core.Bool.{true}
 use mathlib.Core.List.{List, [], ◌∷◌, ◌++◌, append_assoc, append-nil}
 use Prim.Native.Nat.{ℕ, ◌+◌, ◌-◌, ◌≤◌}
@@ -18,7 +19,6 @@ use Rattle.rules.proofs.Rolls.{length-rolls}
 use Rattle.rules.proofs.Running.{rolled_by}
 use Rattle.rules.proofs.Writing.{take_put, drop-put, length-put, lent, drop_more}
 use Rattle.rolls.specs.Inner.{searched}
-use Rattle.rolls.specs.declared.search.Search.TheVariants.{Hit, Missing}
 use Rattle.rolls.proofs.Stepping.{hit_suffices, hit_rolled, hit_within, never_missing}
 
 -- the rolls of the batches before those that are left stand before the place at, and the rest of the run starts at `to` and suffices
@@ -37,10 +37,10 @@ module _ (L : ℕ) (plan : List (List ℕ)) (words : List ℕ) (start : ℕ) (le
     enough : suffices (run_from L (bs ∷ rest) words to v.3.0) ≡ true
     enough = rw e at v.3.1
 
-    pub fill_never : searched to f ≡ Missing → ⊥
+    pub fill_never : searched to f ≡ None → ⊥
     fill_never s = never_missing L bs rest words to v.3.0 f same s enough
 
-    pub fill_hit : (w place m : ℕ) → searched to f ≡ Hit w place m → at + length bs ≤ length out₀
+    fill_hit : (w place m : ℕ) → searched to f ≡ Some (record { word = w; place = place; rejected = m }) → at + length bs ≤ length out₀
         → (last : List ℕ) → last ≡ rolls L bs w ++ drop (length bs) (take (length out - at) (drop at out))
         → Filling L plan words start rest out₀ (put_mid at (length out - at) out last) (place + 1) (at + length bs)
     fill_hit w place m s room last l =
@@ -62,8 +62,20 @@ module _ (L : ℕ) (plan : List (List ℕ)) (words : List ℕ) (start : ℕ) (le
           ),
         )
 
-  pub fill_done : left ≡ [] → out ≡ rolled_by L plan (run L plan words start) ++ drop at out₀
+    -- one turn, by the place where the batch ends
+    pub fill_cut : (w place m : ℕ) → searched to f ≡ Some (record { word = w; place = place; rejected = m }) → (end : ℕ) → end ≡ at + length bs → end ≤ length out₀
+        → (last : List ℕ) → last ≡ rolls L bs w ++ drop (end - at) (take (length out - at) (drop at out))
+        → Filling L plan words start rest out₀ (put_mid at (length out - at) out last) (place + 1) end
+    fill_cut w place m s end e room last l =
+        let size : end - at ≡ length bs = omega (arith, e) in
+        let P : ℕ → Type 0 = λ n. Filling L plan words start rest out₀ (put_mid at (length out - at) out last) (place + 1) n in
+        subst P (sym e) (fill_hit w place m s (omega (arith, e, room)) last (rw size at l))
+
+  fill_done : left ≡ [] → out ≡ rolled_by L plan (run L plan words start) ++ drop at out₀
   unfolding run_from rolls_of
   fill_done e =
       let front : take at out ≡ rolled_by L plan (run L plan words start) = sym (append-nil (take at out)) ∙ (rw e at v.3.2) in
       sym (take-append-drop at out) ∙ rw (front, v.2)
+
+  pub fill_all : left ≡ [] → (count : ℕ) → at ≡ count → out ≡ rolled_by L plan (run L plan words start) ++ drop count out₀
+  fill_all e count same = fill_done e ∙ ap (λ (n : ℕ). rolled_by L plan (run L plan words start) ++ drop n out₀) same

@@ -1,4 +1,5 @@
 pub mod Checking
+pub mod Cutting
 pub mod Filling
 pub mod OneBatch
 pub mod Searching

@@ -5,6 +5,7 @@
 --   one_not_found      number 10, where the search finds no word
 --   found_within       a word that it finds is one of the list
 --   one_found          the rolls in front of zeros, as the caller sees them, where it finds one
+use Rattle.std.specs.Prelude.{Some, None, Ok}
 use mathlib.Core.Path.{◌≡◌, sym, ap, ◌∙◌}
 use mathlib.Core.List.{List, [], ◌∷◌, ◌++◌, append-nil}
 use Prim.Native.Nat.{ℕ, zero, suc, ◌+◌, ◌-◌, ◌<◌, ◌≤◌}
@@ -20,10 +21,10 @@ use Rattle.rules.proofs.Rolls.{length-rolls}
 use Rattle.rules.proofs.Running.{run_hit, run_missing}
 use Rattle.answers.specs.Outcome.{Outcome, refused, done, decide, of_bounds, of_words, from_run, shown_batch}
 use Rattle.answers.specs.declared.answer.Batch.{Batch}
+use Rattle.answers.specs.Results.{batch_answer_of}
 use Rattle.answers.proofs.Deciding.{decide-append, no_start, no_words, words_done}
 use Rattle.rolls.specs.Batch.{roll_batch}
 use Rattle.rolls.specs.Inner.{searched}
-use Rattle.rolls.specs.declared.search.Search.TheVariants.{Hit, Missing}
 use Rattle.rolls.proofs.Searching.{searched_hit, searched_missing}
 
 -- ---- sixteen places
@@ -35,7 +36,7 @@ drop-zeros (suc n) (suc m) = rw suc-sub-suc (drop-zeros n m)
 
 -- what the code returns, of the rolls that it wrote to an array of sixteen zeros
 shown_hit : (L : ℕ) (bs : List ℕ) (start w place : ℕ) (out : List ℕ) → out ≡ rolls L bs w ++ drop (length bs) (replicate max_batch 0)
-    → record { no = 0; next = place + 1; rejected = place - start; count = length bs; rolls = out }
+    → batch_answer_of start (Ok (record { rolls = out; count = length bs; used = record { next = place + 1; rejected = place - start } }))
     ≡ shown_batch start (done (rolls L bs w) (record { place = place; word = w } ∷ []))
 unfolding next rejected
 shown_hit L bs start w place out e =
@@ -67,7 +68,7 @@ module _ (W : Width) (words : List ℕ) (start : ℕ) (bs : List ℕ) where
     one_start h = rest ∙ no_start L (bs ∷ []) words start _ h
 
     module _ (h : start ≤ length words) where
-      pub one_not_found : searched start (find (accepted L bs) (drop start words) start) ≡ Missing → roll_batch W words start bs ≡ refused 10 0
+      pub one_not_found : searched start (find (accepted L bs) (drop start words) start) ≡ None → roll_batch W words start bs ≡ refused 10 0
       one_not_found s = rest ∙ no_words L (bs ∷ []) words start _ h 0 (run_missing L bs [] words start 0 (searched_missing start _ s))
 
       one_hit : (t : Taken) → find (accepted L bs) (drop start words) start ≡ found t → roll_batch W words start bs ≡ done (rolls L bs t.word) (t ∷ [])
@@ -78,12 +79,12 @@ module _ (W : Width) (words : List ℕ) (start : ℕ) (bs : List ℕ) where
           ∙ ap (λ (x : Run). done (rolls_of L (bs ∷ []) (trace x)) (trace x)) r
           ∙ ap (λ (l : List ℕ). done l (t ∷ [])) (append-nil (rolls L bs t.word))
 
-      module _ (w place m : ℕ) (s : searched start (find (accepted L bs) (drop start words) start) ≡ Hit w place m) where
+      module _ (w place m : ℕ) (s : searched start (find (accepted L bs) (drop start words) start) ≡ Some (record { word = w; place = place; rejected = m })) where
         pub found_within : place < length words
         found_within = (find_within _ words start (searched_hit start _ w place m s).0).1
 
         pub one_found : (out : List ℕ) → out ≡ rolls L bs w ++ drop (length bs) (replicate max_batch 0)
-            → record { no = 0; next = place + 1; rejected = m; count = length bs; rolls = out } ≡ shown_batch start (roll_batch W words start bs)
+            → batch_answer_of start (Ok (record { rolls = out; count = length bs; used = record { next = place + 1; rejected = m } })) ≡ shown_batch start (roll_batch W words start bs)
         one_found out e =
             let o = searched_hit start _ w place m s in
             rw o.1 (shown_hit L bs start w place out e ∙ ap (shown_batch start) (sym (one_hit (record { place = place; word = w }) o.0)))

@@ -5,6 +5,7 @@
 --     hit_rolled
 --   hit_passed, hit_within          how many words that batch rejected, and where its word stands
 --   finish_missing, never_missing   where no word is left
+use Rattle.std.specs.Prelude.{Some, None, Result, Ok, Err}
 use mathlib.Core.Path.{◌≡◌, refl, sym, ap, ◌∙◌}
 use mathlib.Core.Bool.{Bool, true, false}
 use mathlib.Core.List.{List, ◌∷◌, ◌++◌}
@@ -16,9 +17,9 @@ use Rattle.rules.proofs.Facts.{clash}
 use Rattle.rules.specs.Run.{Taken, Found, find, Run, ran, short, after, run_from, next, rejected, suffices}
 use Rattle.rolls.specs.Inner.{searched}
 use Rattle.answers.specs.Supplied.{supplied}
-use Rattle.rolls.specs.declared.search.Search.TheVariants.{Hit, Missing}
-use Rattle.answers.specs.declared.supply.Supply.{Supply}
-use Rattle.answers.specs.declared.supply.Supply.TheVariants.{Enough, Short}
+use Rattle.answers.specs.declared.refusal.Refusal.{Refusal}
+use Rattle.answers.specs.declared.refusal.Refusal.TheVariants.{Words}
+use Rattle.answers.specs.declared.results.Used.{Used}
 use Rattle.rules.proofs.Finding.{find_within}
 use Rattle.rolls.proofs.Searching.{searched_hit, searched_missing}
 use Rattle.rules.proofs.Running.{run_missing, after-suffices, after-rolled, run_hit, rolled_by}
@@ -26,17 +27,17 @@ use Rattle.rules.proofs.Running.{run_missing, after-suffices, after-rolled, run_
 -- ---- whether the words suffice
 
 -- with r words rejected so far, and the run that is left, from the place at on
-abbrev pub finish : ℕ → ℕ → Run → Supply
-finish at r (ran ts) = Enough (next at ts) (r + rejected at ts)
-finish at r (short batch) = Short batch
+abbrev pub finish : ℕ → ℕ → Run → Result Used Refusal
+finish at r (ran ts) = Ok (record { next = next at ts; rejected = r + rejected at ts })
+finish at r (short batch) = Err (Words batch)
 
 pub finish_none : (start : ℕ) (w : Run) → finish start 0 w ≡ supplied start w
-finish_none start (ran ts) = ap (λ (n : ℕ). Enough (next start ts) n) (omega arith)
+finish_none start (ran ts) = ap (λ (n : ℕ). Ok (record { next = next start ts; rejected = n })) (omega arith)
 finish_none start (short batch) = refl
 
 finish-after : (at r : ℕ) (t : Taken) (w : Run) → finish at r (after t w) ≡ finish (t.place + 1) (r + (t.place - at)) w
 unfolding next rejected
-finish-after at r t (ran ts) = ap (λ (n : ℕ). Enough (next (t.place + 1) ts) n) (omega arith)
+finish-after at r t (ran ts) = ap (λ (n : ℕ). Ok (record { next = next (t.place + 1) ts; rejected = n })) (omega arith)
 finish-after at r t (short batch) = refl
 
 -- ---- one batch, by the answer of the search for its word
@@ -46,12 +47,12 @@ module _ (L : ℕ) (bs : List ℕ) (plan : List (List ℕ)) (words : List ℕ) (
   whole = run_from L (bs ∷ plan) words start batch
 
   module _ (f : Found) (e : f ≡ find (accepted L bs) (drop start words) start) where
-    module _ (s : searched start f ≡ Missing) where
+    module _ (s : searched start f ≡ None) where
       ends : whole ≡ short batch
       unfolding whole
       ends = run_missing L bs plan words start batch (sym e ∙ searched_missing start f s)
 
-      pub finish_missing : (r : ℕ) → finish start r (run_from L (bs ∷ plan) words start batch) ≡ Short batch
+      pub finish_missing : (r : ℕ) → finish start r (run_from L (bs ∷ plan) words start batch) ≡ Err (Words batch)
       unfolding whole
       finish_missing r = ap (finish start r) ends
 
@@ -61,7 +62,7 @@ module _ (L : ℕ) (bs : List ℕ) (plan : List (List ℕ)) (words : List ℕ) (
           let z : ◌≡◌ {A = Bool} false true = sym (ap suffices ends) ∙ k in
           clash cc
 
-    module _ (w place m : ℕ) (s : searched start f ≡ Hit w place m) where
+    module _ (w place m : ℕ) (s : searched start f ≡ Some (record { word = w; place = place; rejected = m })) where
       later : Run
       later = run_from L plan words (place + 1) (batch + 1)
 

@@ -1,2 +1,3 @@
 pub mod Batch
 pub mod Inner
+pub mod Plan

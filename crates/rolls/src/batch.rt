@@ -1,44 +1,16 @@
 // One batch of bounds.
-ghost use Rattle.std.specs.Prelude.{◌≡◌, [], ◌%◌, ◌^◌};
-ghost use Rattle.rules.specs.Rolls.{product};
+ghost use Rattle.std.specs.Prelude.{◌≡◌, ⊤, MatchResult};
 ghost use Rattle.rules.specs.Width.{w64};
-ghost use Rattle.answers.specs.Outcome.{done, decide, of_bounds};
+ghost use Rattle.answers.specs.Results.{batch_of, batch_answer_of};
 ghost use Rattle.rolls.specs.Batch.{seen_batch};
 
-use super::check::{Checked, check_bounds};
-use super::search::{Search, find_word};
+use super::check::check_bounds;
+use super::search::find_word;
 use super::unfold::write_rolls;
-use answers::answer::{Batch, refused_batch};
+use super::words::Words;
 use answers::limits::MAX_BATCH;
-use answers::refusal;
-
-// One batch whose bounds are not refused, with their product at 64 bits.
-fn draw_batch(words: &[u64], start: usize, bounds: &[u64], b: u64) -> Batch
-    requires { (decide (of_bounds w64 bounds.now) (done [] []) ≡ done [] []) × (b ≡ product bounds.now % 2 ^ 64) }
-    ensures { result ≡ seen_batch w64 words.now start bounds.now }
-{
-    if words.len() < start {
-        return refused_batch(refusal::START, start);
-    }
-    match find_word(words, start, b) {
-        Search::Hit {
-            word,
-            place,
-            rejected,
-        } => {
-            let mut rolls = [0u64; MAX_BATCH];
-            write_rolls(word, bounds, &mut rolls);
-            Batch {
-                no: 0,
-                next: place + 1,
-                rejected,
-                count: bounds.len(),
-                rolls,
-            }
-        }
-        Search::Missing => refused_batch(refusal::WORDS, start),
-    }
-}
+use answers::refusal::Refusal;
+use answers::results::{Rolled, Used};
 
 // The rolls of one batch: sixteen places with their count.
 //
@@ -47,11 +19,22 @@ fn draw_batch(words: &[u64], start: usize, bounds: &[u64], b: u64) -> Batch
 // halves of a product for each bound and for each roll, one remainder, none for a product of 2^64, and a multiplication for each
 // word looked at. With bounds 2, 6 and words 0, 1 the rolls are 0, 0, next is 2 and one word is rejected. While the rules stand the
 // same input has the same answer.
-pub fn roll_batch(words: &[u64], start: usize, bounds: &[u64]) -> Batch
-    ensures { result ≡ seen_batch w64 words.now start bounds.now }
+pub fn roll_batch(words: &[u64], start: usize, bounds: &[u64]) -> Result<Rolled, Refusal>
+    ensures answer { batch_answer_of start result ≡ seen_batch w64 words.now start bounds.now }
+    ensures batch { MatchResult result (λ rolled. ⊤) (λ refusal. batch_of refusal ≡ 0) }
 {
-    match check_bounds(bounds) {
-        Checked::Held { product } => draw_batch(words, start, bounds, product),
-        Checked::Refused { no } => refused_batch(no, start),
-    }
+    let product = check_bounds(bounds)?;
+    let words = Words::from(words, start)?;
+    let hit = find_word(words, product).ok_or(Refusal::Words { batch: 0 })?;
+    // sixteen places with a count, as C gets them
+    let mut rolls = [0u64; MAX_BATCH];
+    write_rolls(hit.word, bounds, &mut rolls);
+    Ok(Rolled {
+        rolls,
+        count: bounds.len(),
+        used: Used {
+            next: hit.place + 1,
+            rejected: hit.rejected,
+        },
+    })
 }

@@ -1,9 +1,8 @@
 -- Long division in base 2, one bit a turn, and the quotient rounded up. Assumes nothing.
 --
 --   Dividing                       with so many bits left: the quotient and the remainder so far
---   divide_none                    before the first turn
 --   divide_below, divide_reached   one turn, where the remainder stays below the divisor, and where it reaches it
---   divide_fits, divide_doubled    the numbers of a turn are words
+--   divide_fits                    the quotient of a turn is a word
 --   divide_done                    with no bit left they are the quotient and the remainder
 --   up_exact, up_more              x / b rounded up is the quotient, or one more
 use Rattle.std.proofs.Common.{◌≡◌, ℕ, zero, suc, ◌+◌, ◌-◌, ◌*◌, ◌/◌, ◌%◌, ◌^◌, ◌<◌, ◌≤◌, sym, ap, ◌∙◌, not-suc-le-zero, mod-lt, pos_of_ne-zero, mul-le-mul_left, pow-suc, div-add-mod', arith, pow_pos}
@@ -59,13 +58,6 @@ module _ (high low b q r left : ℕ) (v : Dividing high low b q r left) (h : 0 <
     reached (high * 2 ^ 64 + low) q b r (2 ^ (left - 1)) (low / 2 ^ (left - 1) % 2) (low % 2 ^ (left - 1)) turned
         (r + low / 2 ^ (left - 1) % 2 - (b - r)) (omega (arith, k, v.0)),
   )
-
--- a remainder that stays below b when it is doubled stays a word
-pub divide_doubled : (r bit b : ℕ) → r + bit < b - r → b < 2 ^ 64 → (r * 2 < 2 ^ 64) × (r * 2 + bit < 2 ^ 64)
-divide_doubled r bit b k f = (omega arith, omega arith)
-
-pub divide_none : (high low b : ℕ) → high < b → low < 2 ^ 64 → Dividing high low b 0 high 64
-divide_none high low b h f = (h, omega arith, omega arith, omega arith)
 
 pub divide_done : (high low b q r left : ℕ) → left ≤ 0 → Dividing high low b q r left
     → (q ≡ (high * 2 ^ 64 + low) / b) × (r ≡ (high * 2 ^ 64 + low) % b)

@@ -1,48 +1,50 @@
 -- The value of rolls, read from the first roll on; the run of words behind a value. Assumes nothing.
 --
---   Reading, reading_none, reading_turn,             the loop that reads the value
---     reading_done
---   reading_fits                                     nothing on the way passes the value
---   first_fits, run-last, run_found                  the run of words behind a value, by division
-use Rattle.std.proofs.Common.{◌≡◌, ℕ, ◌+◌, ◌-◌, ◌*◌, ◌/◌, ◌^◌, ◌<◌, ◌≤◌, true, List, [], length, get_or, drop, sym, refl, ap, ◌∙◌, le-mul_of_pos_right, arith, drop_of_length-le}
+--   Reading, reading_turn, reading_done              the loop that reads the value
+--   reading_fits, value_fits                         nothing on the way passes the value, which is a word
+--   run-last, run_found                              the run of words behind a value, by division
+use Rattle.std.proofs.Common.{◌≡◌, ℕ, ◌+◌, ◌-◌, ◌*◌, ◌/◌, ◌^◌, ◌<◌, ◌≤◌, true, List, [], ◌∷◌, sym, ap, ◌∙◌, le-mul_of_pos_right, arith}
 use native.Mathlib.Nat.{div-eq-sub-div}
 use Rattle.rules.specs.Rolls.{product, value, in_range, up, threshold}
-use Rattle.rules.proofs.Range.{range_later, range_true}
+use Rattle.rules.proofs.Range.{range_true, in_range_cons}
+use lib.Dec.{T}
+use mathlib.Core.Logic.{◌⊎◌, inl, inr}
 use Rattle.rules.proofs.Rolls.{value_below}
 use Rattle.rules.proofs.Words.{window_fits}
 use Rattle.runs.specs.Inner.{run_behind_rolls}
-use Rattle.rules.proofs.Writing.{drop-next}
 
--- a is the value of the rolls read so far
-abbrev pub Reading : List ℕ → List ℕ → ℕ → ℕ → Type 0
-Reading bs rs a i = (i ≤ length bs) × (a * product (drop i bs) + value (drop i bs) (drop i rs) ≡ value bs rs)
+-- a is the value of the rolls read so far: with the rolls rs for the bounds bs still to read, it comes to n
+pub record Reading (n a : ℕ) (bs rs : List ℕ) : Type 0 where
+  pub range : T (in_range bs rs)
+  pub whole : a * product bs + value bs rs ≡ n
 
-pub reading_none : (bs rs : List ℕ) → Reading bs rs 0 0
-reading_none bs rs = (omega arith, omega arith)
+module _ {n a b r : ℕ} {bs cs rs ss : List ℕ} (w : Reading n a cs ss) (e : cs ≡ b ∷ bs) (f : ss ≡ r ∷ rs) where
+  later : T (in_range bs rs)
+  later = ((in_range_cons b bs r rs).0 (rw (e, f) at w.range)).1
 
-module _ (bs rs : List ℕ) (a i : ℕ) (v : Reading bs rs a i) where
-  module _ (h : i < length bs) (k : i < length rs) where
-    pub reading_turn : Reading bs rs (a * get_or bs i 0 + get_or rs i 0) (i + 1)
-    unfolding product value
-    reading_turn =
-        let e : a * (get_or bs i 0 * product (drop (i + 1) bs)) + (get_or rs i 0 * product (drop (i + 1) bs) + value (drop (i + 1) bs) (drop (i + 1) rs)) ≡ value bs rs
-        = rw (drop-next bs i h, drop-next rs i k) at v.1 in
-        (omega arith, omega (arith, e))
-
-    -- nothing on the way passes the value
-    pub reading_fits : in_range bs rs ≡ true → product bs ≤ 2 ^ 64 → (a * get_or bs i 0 < 2 ^ 64) × (a * get_or bs i 0 + get_or rs i 0 < 2 ^ 64)
-    reading_fits e m =
-        let t = range_true bs rs e in
-        let f : value bs rs < product bs = value_below bs rs t in
-        let p : 0 < product (drop (i + 1) bs) = omega (arith, value_below (drop (i + 1) bs) (drop (i + 1) rs) (range_later (i + 1) bs rs t)) in
-        let l : a * get_or bs i 0 + get_or rs i 0 ≤ (a * get_or bs i 0 + get_or rs i 0) * product (drop (i + 1) bs) = le-mul_of_pos_right _ p in
-        (omega (arith, l, reading_turn.1), omega (arith, l, reading_turn.1))
-
-  pub reading_done : length bs ≤ i → a ≡ value bs rs
+  total : (a * b + r) * product bs + value bs rs ≡ n
   unfolding product value
-  reading_done h =
-      let e : a * product [] + value [] (drop i rs) ≡ value bs rs = rw (drop_of_length-le bs h) at v.1 in
-      omega (arith, e)
+  total = omega (arith, rw (e, f) at w.whole)
+
+  pub reading_turn : Reading n (a * b + r) bs rs
+  reading_turn = record { range = later; whole = total }
+
+  -- nothing on the way passes the value
+  pub reading_fits : n < 2 ^ 64 → a * b + r < 2 ^ 64
+  reading_fits m =
+      let p : 0 < product bs = omega (arith, value_below bs rs later) in
+      let l : a * b + r ≤ (a * b + r) * product bs = le-mul_of_pos_right _ p in
+      omega (arith, l, total)
+
+pub reading_done : {n a : ℕ} (bs rs : List ℕ) → Reading n a bs rs → (bs ≡ []) ⊎ (rs ≡ []) → a ≡ n
+unfolding product value in_range
+reading_done [] rs w d = omega (arith, w.whole)
+reading_done (b ∷ bs) [] w d = absurd w.range
+reading_done (b ∷ bs) (r ∷ rs) w (inl e) = cc
+reading_done (b ∷ bs) (r ∷ rs) w (inr e) = cc
+
+pub value_fits : (bs rs : List ℕ) → in_range bs rs ≡ true → product bs ≤ 2 ^ 64 → value bs rs < 2 ^ 64
+value_fits bs rs e m = omega (arith, value_below bs rs (range_true bs rs e))
 
 -- ---- the run of words behind a value
 
@@ -61,10 +63,6 @@ module _ (a b t : ℕ) (h : a < b) (l : b < 2 ^ 64) (e : t ≡ threshold 64 b) w
   last_fits : up (2 ^ 64 * a + threshold 64 b) b + 2 ^ 64 / b - 1 < 2 ^ 64
   last_fits = window_fits (2 ^ 64) b a some (omega (arith, l)) h
 
-  pub first_fits : up (a * 2 ^ 64 + t) b < 2 ^ 64
-  first_fits =
-      rw (dividend a b t e) (omega (arith, last_fits, words_less_one (2 ^ 64) b (2 ^ 64 - b) some (omega (arith, l)) refl))
-
   module _ (first : ℕ) (f : first ≡ up (a * 2 ^ 64 + t) b) (r : ℕ) (g : r ≡ 2 ^ 64 - b) where
     is_first : first ≡ up (2 ^ 64 * a + threshold 64 b) b
     is_first = f ∙ ap (λ (x : ℕ). up x b) (dividend a b t e)
@@ -75,5 +73,5 @@ module _ (a b t : ℕ) (h : a < b) (l : b < 2 ^ 64) (e : t ≡ threshold 64 b) w
     pub run-last : first + r / b < 2 ^ 64
     run-last = rw is_last last_fits
 
-    pub run_found : record { no = 0; next = 0; rejected = 0; first = first; last = first + r / b } ≡ run_behind_rolls 64 b a
-    run_found = λ i. record { no = 0; next = 0; rejected = 0; first = is_first i; last = is_last i }
+    pub run_found : record { first = first; last = first + r / b } ≡ run_behind_rolls 64 b a
+    run_found = λ i. record { first = is_first i; last = is_last i }

@@ -3,11 +3,12 @@
 --   behind-refused    bounds that are refused
 --   behind_misfit     number 7
 --   behind_found      the run of words, where none of them applies
---   run_whole         the run behind a value where the product is 2^64
-use Rattle.std.proofs.Common.{◌≡◌, ℕ, ◌^◌, true, false, not, List, [], ◌∷◌, sym, ap, ◌∙◌, arith}
+use Rattle.std.specs.Prelude.{Ok}
+use Rattle.std.proofs.Common.{◌≡◌, ℕ, true, false, not, List, [], ◌∷◌, sym, ap, ◌∙◌}
 use Rattle.rules.specs.Rolls.{product, value, in_range, first_word, last_word}
 use Rattle.rules.specs.Width.{Width}
 use Rattle.answers.specs.Outcome.{Outcome, refused, done, no, decide, of_bounds, shown_behind}
+use Rattle.answers.specs.Results.{behind_of}
 use Rattle.answers.specs.declared.answer.Behind.{Behind}
 use Rattle.answers.proofs.Deciding.{decide-append, decide_here, decide_past, decide_none}
 use Rattle.runs.specs.Behind.{words_behind}
@@ -29,15 +30,5 @@ module _ (W : Width) (bs rs : List ℕ) where
     pub behind_misfit : in_range bs rs ≡ false → words_behind W bs rs ≡ refused 7 0
     behind_misfit e = past_bounds ∙ p _ ∙ decide_here _ _ _ (ap not e)
 
-    pub behind_found : in_range bs rs ≡ true → shown_behind (words_behind W bs rs) ≡ run_behind_rolls W.bits (product bs) (value bs rs)
+    pub behind_found : in_range bs rs ≡ true → shown_behind (words_behind W bs rs) ≡ behind_of (Ok (run_behind_rolls W.bits (product bs) (value bs rs)))
     behind_found e = ap shown_behind (past_bounds ∙ p _ ∙ decide_past _ _ _ (ap not e) ∙ decide_none answer)
-
--- with 2^64 words and 2^64 values each value has one word, itself
-pub run_whole : (a b : ℕ) → b ≡ 2 ^ 64 → record { no = 0; next = 0; rejected = 0; first = a; last = a } ≡ run_behind_rolls 64 b a
-run_whole a b e = rw e (λ i. record { no = 0; next = 0; rejected = 0; first = first i; last = last i })
-  where
-    first : a ≡ (run_behind_rolls 64 (2 ^ 64) a).first
-    first = omega arith
-
-    last : a ≡ (run_behind_rolls 64 (2 ^ 64) a).last
-    last = omega arith

@@ -1,11 +1,11 @@
 -- What the inner functions answer.
 --
---   run_behind_rolls L b a    the answer for the run of words behind the value a of a batch with product b
+--   run_behind_rolls L b a    the run of words behind the value a of a batch with product b
 use Rattle.std.specs.Prelude.{ℕ, ◌+◌, ◌-◌, ◌*◌, ◌/◌, ◌^◌}
 use Rattle.rules.specs.Rolls.{threshold, up}
-use Rattle.answers.specs.declared.answer.Behind.{Behind}
+use Rattle.answers.specs.declared.results.WordRun.{WordRun}
 
-abbrev pub run_behind_rolls : ℕ → ℕ → ℕ → Behind
+abbrev pub run_behind_rolls : ℕ → ℕ → ℕ → WordRun
 run_behind_rolls L b a =
     let first : ℕ = up (2 ^ L * a + threshold L b) b in
-    record { no = 0; next = 0; rejected = 0; first = first; last = first + 2 ^ L / b - 1 }
+    record { first = first; last = first + 2 ^ L / b - 1 }

@@ -8,9 +8,8 @@
 --   words_front, records_front                            what was read stands in front of them
 --   drawn_done                                            what the caller sees of a sample that was done
 --   drawn_refused                                         what the caller sees of a sample that was refused
---   arrays, zeros                                         what reading leaves in arrays of zeros with the most room that a sheet wants
---   drawn_here                                            the sheet's draw is the sample of what stands in front of them
---   shown_refused                                         a refusal is shown alike whatever the sheet
+--   zeros                                                 an array of so many zeros has room for as many
+--   refusal_some                                          no refusal has the number 0
 use mathlib.Core.Path.{◌≡◌, refl, sym, ap, ◌∙◌}
 use mathlib.Core.Bool.{Bool, true, false}
 use mathlib.Core.List.{List, [], ◌∷◌, ◌++◌}
@@ -23,13 +22,16 @@ use Rattle.rules.specs.Run.{next, rejected}
 use Rattle.rules.specs.Width.{w64}
 use Rattle.rules.proofs.Facts.{clash}
 use Rattle.answers.specs.Outcome.{Outcome, refused, done, no, decide, shown, left}
+use Rattle.answers.specs.Results.{number_of}
 use Rattle.answers.specs.declared.answer.Answer.{Answer}
+use Rattle.answers.specs.declared.refusal.Refusal.{Refusal}
+use Rattle.answers.specs.declared.refusal.Refusal.TheVariants.{Sheet, Count, Sample, Zero, Product, Room, Misfit, Order, Start, Words}
 use Rattle.answers.proofs.Deciding.{decide-refused, decide_allowed}
 use Rattle.draws.specs.Sample.{sample}
 use Rattle.sheet.specs.Sheet.{numbers, words_of, records_of, is_sound_sheet}
 use Rattle.sheet.specs.ReadSheet.{unreadable, drawn_by, shown_drawn, seen_read}
 use Rattle.sheet.specs.RunSheet.{run_sheet}
-use Rattle.sheet.specs.declared.read.Drawn.{Drawn}
+use Rattle.sheet.specs.declared.drawn.Drawn.{Drawn}
 use Rattle.sheet.proofs.Reading.{right_size, length_words, length_records, Read, read_enough}
 use Rattle.sheet.proofs.Running.{sheet_refusal, four_only}
 use Rattle.sheet.proofs.Soundness.{sound_known, sheet_records}
@@ -190,20 +192,20 @@ module _ (s wordRoom recordRoom : List ℕ) (d : Drawn) (ws xs : List ℕ) (v : 
 
 -- ---- the arrays of the code
 
--- what reading leaves in them, with its answer
-abbrev pub arrays : List ℕ → Drawn × (List ℕ × List ℕ)
-arrays s = seen_read s (replicate 8188 0) (replicate 16377 0)
-
 pub zeros : (n : ℕ) → n ≤ length (replicate {A = ℕ} n 0)
 zeros n = rw (length-replicate {A = ℕ} n 0) (omega arith)
 
-pub drawn_here : (s : List ℕ) (room : ℕ) → (arrays s).0.no ≡ 0
-    → run_sheet w64 s room ≡ sample w64 (take (arrays s).0.words (arrays s).1.0) 0 (take (arrays s).0.records (arrays s).1.1) (arrays s).0.k room
-drawn_here s room z =
-    let (d, (ws, xs)) = arrays s in
-    let v = held s (replicate 8188 0) (replicate 16377 0) d ws xs (zeros 8188) (zeros 16377) (refl, (refl, refl)) z in
-    sym (same_draw s (replicate 8188 0) (replicate 16377 0) d ws xs v room [] _ _ (refl, refl))
+-- ---- refusals
 
-pub shown_refused : (s : List ℕ) (o : Outcome) → ((shown 0 o).no ≡ 0 → ⊥) → shown_drawn s o ≡ shown_drawn [] (refused (shown 0 o).no (shown 0 o).batch)
-shown_refused s (refused n batch) h = refl
-shown_refused s (done values ts) h = absurd (h refl)
+-- no refusal has the number 0
+pub refusal_some : (r : Refusal) → number_of r ≡ 0 → ⊥
+refusal_some Sheet e = omega arith
+refusal_some Count e = omega arith
+refusal_some Sample e = omega arith
+refusal_some Zero e = omega arith
+refusal_some Product e = omega arith
+refusal_some Room e = omega arith
+refusal_some Misfit e = omega arith
+refusal_some Order e = omega arith
+refusal_some Start e = omega arith
+refusal_some (Words batch) e = omega arith

@@ -3,29 +3,25 @@
 --   length_words, length_records   a sheet has as many words and records as its numbers say
 --   right_size, size_right         number 3 does not apply exactly where k and w are right
 --   Read                           what comes of reading, for whatever is read
---   read_unsound                   a sheet that is not sound is refused by 1
---   read_size                      a sound sheet to which number 3 applies is refused by 3
---   few_words, few_records         it is refused by 6 where either list is too short
---   read_done                      and else read
---   refused_read, done_read        what the caller sees of it
+--   read_done                      a sound sheet to which number 3 does not apply is read where both lists have room
+--   done_read                      what the caller then sees
 --   read_enough                    with room for the most that a sheet holds, number 6 is not met
 use mathlib.Core.Path.{◌≡◌, sym, ap, ap₂, ◌∙◌}
-use mathlib.Core.Bool.{Bool, true, false, not, ◌||◌, or-true}
-use mathlib.Core.List.{List, [], ◌∷◌, ◌++◌}
-use Prim.Native.Nat.{ℕ, ◌<◌, ◌≤◌}
+use mathlib.Core.Bool.{Bool, true, false, not, ◌||◌}
+use mathlib.Core.List.{List, []}
+use Prim.Native.Nat.{ℕ, ◌≤◌}
 use native.Mathlib.Omega.{arith}
 use lib.Dec.{ltb}
-use lib.ListN.{length, drop}
-use borrow.Author.Tests.{lt-ltb, le-ltb, ltb-false, not-false}
+use lib.ListN.{length}
+use borrow.Author.Tests.{le-ltb, ltb-false, not-false}
 use Rattle.rules.proofs.Facts.{or_left, or_right}
 use Rattle.rules.specs.Run.{next, rejected}
-use Rattle.answers.specs.Outcome.{Outcome, refused, done, no, decide, outside, left}
-use Rattle.answers.proofs.Deciding.{decide_here, decide_past, decide_none, decide_under, in_count}
-use Rattle.areas.specs.Area.{entries}
+use Rattle.answers.specs.Outcome.{Outcome, done, no, decide, outside}
+use Rattle.answers.proofs.Deciding.{decide_past, decide_none, decide_under, in_count}
 use Rattle.areas.proofs.Reading.{length-entries}
 use Rattle.sheet.specs.Sheet.{numbers, words_of, records_of, is_sound_sheet, is_wrong_size}
 use Rattle.sheet.specs.ReadSheet.{unreadable, read_refusals, drawn_by, shown_drawn, seen_read}
-use Rattle.sheet.specs.declared.read.Drawn.{Drawn}
+use Rattle.sheet.specs.declared.drawn.Drawn.{Drawn}
 use Rattle.sheet.proofs.Soundness.{sound_known, sheet_words, sheet_records}
 
 pub length_words : (s : List ℕ) → length (words_of s) ≡ (numbers s).words
@@ -55,50 +51,16 @@ abbrev pub Read : List ℕ → ℕ → ℕ → List ℕ → Outcome
 Read s m n values = decide (read_refusals s m n) (done values [])
 
 module _ (s : List ℕ) (m n : ℕ) (values : List ℕ) where
-  pub read_unsound : is_sound_sheet s ≡ false → Read s m n values ≡ refused 1 0
-  read_unsound e = decide_here _ _ _ (ap not e)
-
-  module _ (sound : is_sound_sheet s ≡ true) where
-    pub read_size : wrong s ≡ true → Read s m n values ≡ refused 3 0
-    read_size e = decide_past _ _ _ (ap not sound) ∙ decide_here _ _ _ e
-
-    module _ (size : wrong s ≡ false) where
-      past : Read s m n values ≡ decide (no 6 (ltb m (numbers s).words || ltb n (numbers s).records) ∷ []) (done values [])
-      past = decide_past _ _ _ (ap not sound) ∙ decide_past _ _ _ size
-
-      pub few_words : m < (numbers s).words → Read s m n values ≡ refused 6 0
-      few_words l = past ∙ decide_here _ _ _ (ap (λ (b : Bool). b || ltb n (numbers s).records) (lt-ltb m (numbers s).words l))
-
-      pub few_records : n < (numbers s).records → Read s m n values ≡ refused 6 0
-      few_records l =
-          past ∙ decide_here _ _ _ (ap (λ (b : Bool). ltb m (numbers s).words || b) (lt-ltb n (numbers s).records l) ∙ or-true (ltb m (numbers s).words))
-
-      pub read_done : (numbers s).words ≤ m → (numbers s).records ≤ n → Read s m n values ≡ done values []
-      read_done h k = past ∙ decide_past _ _ _ (ap₂ ◌||◌ (le-ltb m _ h) (le-ltb n _ k)) ∙ decide_none (done values [])
+  pub read_done : is_sound_sheet s ≡ true → wrong s ≡ false → (numbers s).words ≤ m → (numbers s).records ≤ n → Read s m n values ≡ done values []
+  read_done sound size h k =
+      decide_past _ _ _ (ap not sound) ∙ decide_past _ _ _ size ∙ decide_past _ _ _ (ap₂ ◌||◌ (le-ltb m _ h) (le-ltb n _ k)) ∙ decide_none (done values [])
 
 -- ---- what the caller sees
 
-module _ (s words records : List ℕ) (d : Drawn) where
-  pub refused_read : (number : ℕ) → ((values : List ℕ) → Read s (length words) (length records) values ≡ refused number 0) → d ≡ shown_drawn [] (refused number 0)
-      → (d ≡ (seen_read s words records).0) × ((words ≡ (seen_read s words records).1.0) × (records ≡ (seen_read s words records).1.1))
-  refused_read number e f = (
-    f ∙ ap (shown_drawn s) (sym (e [])),
-    (ap (left words) (sym (e (words_of s))), ap (left records) (sym (e (records_of s)))),
-  )
-
-  pub done_read : ((values : List ℕ) → Read s (length words) (length records) values ≡ done values []) → d ≡ drawn_by s 0 0 → (ws xs : List ℕ)
-      → ws ≡ entries 8 d.words d.words_at s ++ drop d.words words → xs ≡ entries 4 d.records d.records_at s ++ drop d.records records
-      → (d ≡ (seen_read s words records).0) × ((ws ≡ (seen_read s words records).1.0) × (xs ≡ (seen_read s words records).1.1))
-  unfolding next rejected
-  done_read e f ws xs g h = (
-    f ∙ ap (shown_drawn s) (sym (e [])),
-    (
-      g ∙ ap (λ (b : Drawn). entries 8 b.words b.words_at s ++ drop b.words words) f
-          ∙ ap (λ (m : ℕ). words_of s ++ drop m words) (sym (length_words s)) ∙ ap (left words) (sym (e (words_of s))),
-      h ∙ ap (λ (b : Drawn). entries 4 b.records b.records_at s ++ drop b.records records) f
-          ∙ ap (λ (m : ℕ). records_of s ++ drop m records) (sym (length_records s)) ∙ ap (left records) (sym (e (records_of s))),
-    ),
-  )
+pub done_read : (s words records : List ℕ) (d : Drawn) → Read s (length words) (length records) [] ≡ done [] [] → d ≡ drawn_by s 0 0
+    → d ≡ (seen_read s words records).0
+unfolding next rejected
+done_read s words records d e f = f ∙ ap (shown_drawn s) (sym e)
 
 -- ---- room enough
 

@@ -25,7 +25,7 @@ use Rattle.draws.specs.Sample.{sample_plan, sampled, sample}
 use Rattle.sheet.specs.Sheet.{numbers, words_of, records_of, is_sound_sheet, is_wrong_size}
 use Rattle.sheet.specs.ReadSheet.{shown_drawn}
 use Rattle.sheet.specs.RunSheet.{sheet_refusals, run_sheet}
-use Rattle.sheet.specs.declared.read.Drawn.{Drawn}
+use Rattle.sheet.specs.declared.drawn.Drawn.{Drawn}
 use Rattle.sheet.proofs.Reading.{length_records}
 use Rattle.sheet.proofs.Soundness.{sound_known, sheet_records}
 

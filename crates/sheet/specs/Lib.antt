@@ -1,4 +1,5 @@
 pub mod ReadSheet
+pub mod Results
 pub mod RunSheet
 pub mod Sheet
 pub mod Pinned

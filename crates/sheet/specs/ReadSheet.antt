@@ -11,7 +11,7 @@ use Rattle.std.specs.Prelude.{not, ◌||◌, List, [], ◌∷◌, ◌++◌, ℕ,
 use Rattle.rules.specs.Run.{next, rejected}
 use Rattle.answers.specs.Outcome.{Outcome, refused, done, Refusal, no, decide, left}
 use Rattle.sheet.specs.Sheet.{numbers, words_of, records_of, is_sound_sheet, is_wrong_size}
-use Rattle.sheet.specs.declared.read.Drawn.{Drawn}
+use Rattle.sheet.specs.declared.drawn.Drawn.{Drawn}
 
 abbrev pub unreadable : List ℕ → List Refusal
 unreadable s = no 1 (not (is_sound_sheet s)) ∷ no 3 (is_wrong_size (numbers s).records (numbers s).k (numbers s).w) ∷ []

@@ -11,7 +11,7 @@ use Rattle.answers.specs.Outcome.{Outcome, Refusal, no, no_word, decide, left}
 use Rattle.draws.specs.Sample.{sample_plan, sample}
 use Rattle.sheet.specs.ReadSheet.{unreadable, shown_drawn}
 use Rattle.sheet.specs.Sheet.{numbers, words_of, records_of}
-use Rattle.sheet.specs.declared.read.Drawn.{Drawn}
+use Rattle.sheet.specs.declared.drawn.Drawn.{Drawn}
 
 unfoldable pub run_sheet : Width → List ℕ → ℕ → Outcome
 run_sheet W s room = decide (unreadable s) (sample W (words_of s) 0 (records_of s) (numbers s).k room)

@@ -1,11 +1,13 @@
 // Reading a draw sheet: whether it is sound, its six numbers, its words and its records.
-ghost use Rattle.std.specs.Prelude.{◌≡◌, [], ◌≤◌, min, max, ltb, length};
-ghost use Rattle.answers.specs.Outcome.{refused};
+ghost use Rattle.std.specs.Prelude.{◌≡◌, true, false, ◌≤◌, min, max, ltb, length, MatchResult};
+ghost use Rattle.answers.specs.declared.refusal.Refusal.TheVariants.{Sample};
 ghost use Rattle.sheet.specs.Sheet.{is_sound_sheet, is_wrong_size};
-ghost use Rattle.sheet.specs.ReadSheet.{drawn_by, shown_drawn, seen_read};
+ghost use Rattle.sheet.specs.ReadSheet.{seen_read};
+ghost use Rattle.sheet.specs.Results.{header_of, read_of};
 
-use answers::refusal;
-use areas::read::{read_number, read_records, read_words};
+use answers::refusal::Refusal;
+use areas::number::Number;
+use areas::read::read_numbers;
 
 // The places of the six numbers, each of 4 bytes.
 pub const WORD_COUNT: usize = 0;
@@ -31,14 +33,9 @@ pub const SHEET_WORDS: usize = 8188;
 
 pub const SHEET_RECORDS: usize = 16377;
 
-// The answer of an operation on a sheet, and the six numbers of the sheet.
-#[repr(C)]
-#[derive(Drop)]
-pub struct Drawn {
-    pub no: u64,
-    pub next: usize,
-    pub rejected: usize,
-    pub batch: usize,
+// The six numbers of a sheet: how many words and records it has and where they lie, and k and w.
+#[derive(Clone, Copy, Debug, PartialEq, Eq)]
+pub struct Header {
     pub words: u32,
     pub words_at: u32,
     pub records: u32,
@@ -51,8 +48,8 @@ pub struct Drawn {
 fn share_byte(from: usize, to: usize, start: usize, end: usize) -> bool
     ensures { result ≡ ltb (max from start) (min to end) }
 {
-    let later = if from < start { start } else { from };
-    let earlier = if to < end { to } else { end };
+    let later = from.max(start);
+    let earlier = to.min(end);
     later < earlier
 }
 
@@ -68,10 +65,10 @@ fn is_sound(sheet: &[u8]) -> bool
     if MAX_SHEET < length {
         return false;
     }
-    let words_at = read_number(sheet, WORDS_AT) as usize;
-    let words_end = words_at + 8 * read_number(sheet, WORD_COUNT) as usize;
-    let records_at = read_number(sheet, RECORDS_AT) as usize;
-    let records_end = records_at + 4 * read_number(sheet, RECORD_COUNT) as usize;
+    let words_at = u32::read(sheet, WORDS_AT) as usize;
+    let words_end = words_at + 8 * u32::read(sheet, WORD_COUNT) as usize;
+    let records_at = u32::read(sheet, RECORDS_AT) as usize;
+    let records_end = records_at + 4 * u32::read(sheet, RECORD_COUNT) as usize;
     if words_at < HEADER {
         return false;
     }
@@ -87,53 +84,28 @@ fn is_sound(sheet: &[u8]) -> bool
     !share_byte(words_at, words_end, records_at, records_end)
 }
 
-// Whether number 3 applies to a sheet of n records: k is 0 or above n, or w is above k.
-pub fn wrong_size(n: usize, k: usize, w: usize) -> bool
-    ensures { result ≡ is_wrong_size n k w }
+// Refused by number 3 where k is 0 or above n, the count of records, or w is above k.
+pub fn check_size(n: usize, k: usize, w: usize) -> Result<(), Refusal>
+    ensures { MatchResult result (λ fits. is_wrong_size n k w ≡ false) (λ refusal. (refusal ≡ Sample) × (is_wrong_size n k w ≡ true)) }
 {
-    if k < 1 {
-        return true;
+    if k < 1 || n < k || k < w {
+        return Err(Refusal::Sample);
     }
-    if n < k {
-        return true;
-    }
-    k < w
+    Ok(())
 }
 
-// A refusal: its number, the batch at number 10, and zeros elsewhere.
-pub fn refused_drawn(number: u64, batch: usize) -> Drawn
-    ensures { result ≡ shown_drawn [] (refused number batch) }
-{
-    Drawn {
-        no: number,
-        next: 0,
-        rejected: 0,
-        batch,
-        words: 0,
-        words_at: 0,
-        records: 0,
-        records_at: 0,
-        k: 0,
-        w: 0,
-    }
-}
-
-// The six numbers of a sheet, in an answer that uses no word.
-fn read_numbers(sheet: &[u8]) -> Drawn
+// The six numbers of a sheet.
+fn read_header(sheet: &[u8]) -> Header
     requires { 24 ≤ length sheet.now }
-    ensures { result ≡ drawn_by sheet.now 0 0 }
+    ensures { result ≡ header_of sheet.now }
 {
-    Drawn {
-        no: 0,
-        next: 0,
-        rejected: 0,
-        batch: 0,
-        words: read_number(sheet, WORD_COUNT),
-        words_at: read_number(sheet, WORDS_AT),
-        records: read_number(sheet, RECORD_COUNT),
-        records_at: read_number(sheet, RECORDS_AT),
-        k: read_number(sheet, K),
-        w: read_number(sheet, W),
+    Header {
+        words: u32::read(sheet, WORD_COUNT),
+        words_at: u32::read(sheet, WORDS_AT),
+        records: u32::read(sheet, RECORD_COUNT),
+        records_at: u32::read(sheet, RECORDS_AT),
+        k: u32::read(sheet, K),
+        w: u32::read(sheet, W),
     }
 }
 
@@ -141,31 +113,28 @@ fn read_numbers(sheet: &[u8]) -> Drawn
 //
 // The six numbers say where the words and the records lie and how many there are, and give k and w; they come back. Whether the words
 // suffice for the draw is not looked at. Refusals, the lowest that applies: 1 the sheet is not sound, 3 k is 0 or above the count of
-// records or w is above k, 6 one of the lists is shorter than what is read into it; both lists are then exactly what they were, and the
-// six numbers are zeros. Each word and each record is copied once. The 52 bytes of the header 2, 24, 3, 40, 1, 1, the words 0, 1 and the
+// records or w is above k, 6 one of the lists is shorter than what is read into it; both lists are then exactly what they were. Each word and each record is copied once. The 52 bytes of the header 2, 24, 3, 40, 1, 1, the words 0, 1 and the
 // records 101, 205, 309 give these numbers, words and records back. While the rules stand the same input has the same answer.
 #[tactic(auto, unfolding(answers::specs::Outcome::decide))]
-pub fn read_sheet(sheet: &[u8], words: &mut [u64], records: &mut [u32]) -> Drawn
-    ensures answer { result ≡ (seen_read sheet.now words.old records.old).0 }
+pub fn read_sheet(sheet: &[u8], words: &mut [u64], records: &mut [u32]) -> Result<Header, Refusal>
+    ensures answer { read_of result ≡ (seen_read sheet.now words.old records.old).0 }
     ensures words { words.new ≡ (seen_read sheet.now words.old records.old).1.0 }
     ensures records { records.new ≡ (seen_read sheet.now words.old records.old).1.1 }
 {
     if !is_sound(sheet) {
-        return refused_drawn(refusal::SHEET, 0);
+        return Err(Refusal::Sheet);
     }
-    let read = read_numbers(sheet);
-    let m = read.words as usize;
-    let n = read.records as usize;
-    if wrong_size(n, read.k as usize, read.w as usize) {
-        return refused_drawn(refusal::SAMPLE, 0);
-    }
+    let header = read_header(sheet);
+    let m = header.words as usize;
+    let n = header.records as usize;
+    check_size(n, header.k as usize, header.w as usize)?;
     if words.len() < m {
-        return refused_drawn(refusal::ROOM, 0);
+        return Err(Refusal::Room);
     }
     if records.len() < n {
-        return refused_drawn(refusal::ROOM, 0);
+        return Err(Refusal::Room);
     }
-    read_words(sheet, read.words_at as usize, m, words);
-    read_records(sheet, read.records_at as usize, n, records);
-    read
+    read_numbers(sheet, header.words_at as usize, m, words);
+    read_numbers(sheet, header.records_at as usize, n, records);
+    Ok(header)
 }

@@ -2,4 +2,3 @@ pub mod OneShuffle
 pub mod Placing
 pub mod Reach
 pub mod Shuffling
-pub mod Unrolling

@@ -1,70 +1,86 @@
--- The loops of a shuffle: the product of a batch's bounds, and the exchanges of one batch. Assumes nothing.
+-- The loops over the bounds of one batch, m, m - 1, .., s of them: their product, the exchanges, and the rolls written to a list. Assumes
+-- nothing.
 --
---   Growing, grow_none, grow_turn, grow_done      the product of m, m - 1, .., s of them
---   grow_fits                                     each product on the way is a word
---   Placing, place_none, place_turn, place_done   the records of one batch are placed, one for each bound
-use mathlib.Core.Path.{◌≡◌, refl, ◌∙◌}
-use mathlib.Core.List.{List}
-use Prim.Native.Nat.{ℕ, ◌-◌, ◌*◌, ◌/◌, ◌%◌, ◌^◌, ◌<◌, ◌≤◌}
-use native.Mathlib.Nat.{le-mul_of_pos_right, mod-lt}
+--   next                                the bounds from a place on, one at a time
+--   Growing, grow_turn, grow_done       the product of the bounds
+--   grow_fits                           each product on the way is a word
+--   Placing, place_turn, place_done     the records of the batch are placed, one for each bound
+--   Writing, write_turn, write_done     its rolls are written, one for each bound
+use mathlib.Core.Path.{◌≡◌, sym, ◌∙◌}
+use mathlib.Core.List.{List, ◌∷◌, ◌++◌, append_assoc}
+use Prim.Native.Nat.{ℕ, ◌+◌, ◌-◌, ◌*◌, ◌/◌, ◌%◌, ◌^◌, ◌<◌, ◌≤◌}
+use native.Mathlib.Nat.{le-mul_of_pos_right}
 use native.Mathlib.Omega.{arith}
-use lib.ListN.{length}
-use lib.Pow.{pow_pos}
+use lib.ListN.{length, take, drop, set, take-append-drop}
+use lib.Seq.{drop-set-lt}
 use Rattle.rules.specs.Rolls.{rolls, product}
 use Rattle.rules.specs.Shuffle.{exchange, shuffle_with, countdown}
-use Rattle.rules.proofs.Exchanging.{length-exchange}
 use Rattle.rules.proofs.Rows.{countdown-cons, product-countdown}
+use Rattle.rules.proofs.Writing.{stored_front}
+
+-- the bounds from the one at place i on are that one and the others
+next : (m s i : ℕ) → i < s → countdown (s - i) (m - i) ≡ (m - i) ∷ countdown (s - (i + 1)) (m - (i + 1))
+next m s i h =
+    let d : s - (i + 1) ≡ s - i - 1 = omega arith in
+    let e : m - (i + 1) ≡ m - i - 1 = omega arith in
+    rw (d, e) (countdown-cons (s - i) (m - i) (omega arith))
 
 -- ---- the product
 
--- p is the product of the bounds above `bound`, and `left` of them, from `bound` down, are still to come
-abbrev pub Growing : ℕ → ℕ → ℕ → ℕ → ℕ → Type 0
-Growing m s p bound left = (left ≤ bound) × (bound ≤ m) × (p * product (countdown left bound) ≡ product (countdown s m))
+-- p is the product of the first i bounds: times that of the others it is the whole
+abbrev pub Growing : ℕ → ℕ → ℕ → ℕ → Type 0
+Growing m s p i = p * product (countdown (s - i) (m - i)) ≡ product (countdown s m)
 
-pub grow_none : (m s : ℕ) → s ≤ m → Growing m s 1 m s
-grow_none m s h = (h, omega arith, omega arith)
-
-module _ (m s p bound left : ℕ) (v : Growing m s p bound left) where
-  module _ (h : 0 < left) where
-    whole : p * bound * product (countdown (left - 1) (bound - 1)) ≡ product (countdown s m)
+module _ (m s p i : ℕ) (v : Growing m s p i) where
+  module _ (h : i < s) where
+    pub grow_turn : Growing m s (p * (m - i)) (i + 1)
     unfolding product
-    whole = omega (arith, rw (countdown-cons left bound h) at v.2)
+    grow_turn = omega (arith, rw (next m s i h) at v)
 
-    pub grow_turn : Growing m s (p * bound) (bound - 1) (left - 1)
-    grow_turn = (omega (arith, v.0), omega (arith, v.1), whole)
+    pub grow_fits : s ≤ m → product (countdown s m) < 2 ^ 64 → p * (m - i) < 2 ^ 64
+    grow_fits k f =
+        let some : 0 < product (countdown (s - (i + 1)) (m - (i + 1))) = (product-countdown (s - (i + 1)) (m - (i + 1)) m (omega arith) (omega arith)).0 in
+        omega (arith, grow_turn, le-mul_of_pos_right (p * (m - i)) some)
 
-    pub grow_fits : product (countdown s m) < 2 ^ 64 → p * bound < 2 ^ 64
-    grow_fits f =
-        let some : 0 < product (countdown (left - 1) (bound - 1)) = (product-countdown (left - 1) (bound - 1) m (omega (arith, v.0)) (omega (arith, v.1))).0 in
-        omega (arith, whole, le-mul_of_pos_right (p * bound) some)
-
-  pub grow_done : left ≤ 0 → p ≡ product (countdown s m)
+  pub grow_done : s ≤ i → p ≡ product (countdown s m)
   unfolding product countdown
-  grow_done h = let e : left ≡ 0 = omega arith in omega (arith, rw e at v.2)
+  grow_done h = let e : s - i ≡ 0 = omega arith in omega (arith, rw e at v)
 
 -- ---- the exchanges
 
--- the rolls of the bounds above `bound` are taken out of the word, and r is what they left
-abbrev pub Placing : ℕ → List ℕ → ℕ → ℕ → ℕ → List ℕ → ℕ → ℕ → ℕ → Type 0
-Placing L xs₀ m s word xs r bound left =
-    (left ≤ bound) × (bound ≤ length xs₀) × (length xs ≡ length xs₀) × (r < 2 ^ L)
-    × (shuffle_with bound (rolls L (countdown left bound) r) xs ≡ shuffle_with m (rolls L (countdown s m) word) xs₀)
+-- the rolls of the first i bounds are taken out of the word, and r is what they left: those of the others bring the list as it stands to
+-- what all of them give
+abbrev pub Placing : ℕ → List ℕ → ℕ → ℕ → ℕ → List ℕ → ℕ → ℕ → Type 0
+Placing L xs₀ m s word xs r i = shuffle_with (m - i) (rolls L (countdown (s - i) (m - i)) r) xs ≡ shuffle_with m (rolls L (countdown s m) word) xs₀
 
-pub place_none : (L : ℕ) (xs : List ℕ) (m s word : ℕ) → s ≤ m → m ≤ length xs → word < 2 ^ L → Placing L xs m s word xs word m s
-place_none L xs m s word h k w = (h, k, refl, w, refl)
-
-module _ (L : ℕ) (xs₀ : List ℕ) (m s word : ℕ) (xs : List ℕ) (r bound left : ℕ) (v : Placing L xs₀ m s word xs r bound left) where
-  pub place_turn : (q t : ℕ) → 0 < left → q ≡ bound * r / 2 ^ L → t ≡ bound * r % 2 ^ L
-      → Placing L xs₀ m s word (exchange xs q (bound - 1)) t (bound - 1) (left - 1)
+module _ (L : ℕ) (xs₀ : List ℕ) (m s word : ℕ) (xs : List ℕ) (r i : ℕ) (v : Placing L xs₀ m s word xs r i) where
+  pub place_turn : (q t : ℕ) → i < s → q ≡ (m - i) * r / 2 ^ L → t ≡ (m - i) * r % 2 ^ L
+      → Placing L xs₀ m s word (exchange xs q (m - i - 1)) t (i + 1)
   unfolding rolls shuffle_with
-  place_turn q t h e f = (
-    omega (arith, v.0),
-    omega (arith, v.1),
-    length-exchange xs q (bound - 1) ∙ v.2,
-    rw f (mod-lt (bound * r) (pow_pos L)),
-    rw (e, f) (rw (countdown-cons left bound h) at v.4),
-  )
+  place_turn q t h e f =
+      let g : m - (i + 1) ≡ m - i - 1 = omega arith in
+      rw (g, e, f) (rw (next m s i h, g) at v)
 
-  pub place_done : left ≤ 0 → xs ≡ shuffle_with m (rolls L (countdown s m) word) xs₀
+  pub place_done : s ≤ i → xs ≡ shuffle_with m (rolls L (countdown s m) word) xs₀
   unfolding countdown rolls shuffle_with
-  place_done h = let e : left ≡ 0 = omega arith in rw e at v.4
+  place_done h = let e : s - i ≡ 0 = omega arith in rw e at v
+
+-- ---- the rolls written to a list
+
+-- the rolls of the first i bounds are written, and r is what they left: with those of the others they are all of the word's
+abbrev pub Writing : ℕ → List ℕ → ℕ → ℕ → ℕ → List ℕ → ℕ → ℕ → Type 0
+Writing L out₀ m s word out r i = take i out ++ (rolls L (countdown (s - i) (m - i)) r ++ drop s out) ≡ rolls L (countdown s m) word ++ drop s out₀
+
+module _ (L : ℕ) (out₀ : List ℕ) (m s word : ℕ) (out : List ℕ) (r i : ℕ) (v : Writing L out₀ m s word out r i) where
+  pub write_turn : (q t : ℕ) → i < s → s ≤ length out → q ≡ (m - i) * r / 2 ^ L → t ≡ (m - i) * r % 2 ^ L
+      → Writing L out₀ m s word (set out i q) t (i + 1)
+  unfolding rolls
+  write_turn q t h room e f =
+      rw (stored_front out i q (omega arith), append_assoc, drop-set-lt s out i q h, e, f) (rw (next m s i h) at v)
+
+  pub write_done : s ≤ i → i ≤ s → out ≡ rolls L (countdown s m) word ++ drop s out₀
+  unfolding countdown rolls
+  write_done h k =
+      let e : s - i ≡ 0 = omega arith in
+      let f : i ≡ s = omega arith in
+      sym (take-append-drop s out) ∙ (rw (e, f) at v)

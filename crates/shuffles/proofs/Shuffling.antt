@@ -1,112 +1,118 @@
 -- The batches of a shuffle as the code has them, and the records placed batch by batch. Assumes nothing.
 --
---   plan_of W                         the batches of a shuffle
---   batch_less, batch_fits            the batch with m records still to place: its size, its product
---   batch_plan, batch_find            the plan goes on behind it; the search for its word
+--   down_within, down_begins          the batch that begins at a place: where it ends, and its bounds
+--   size_less, product_less           its size, its product
+--   down_cut                          the code's cut is that batch
 --   Shuffling                         with m records still to place: the list as it stands, and the rest of the run
---   shuffling_none, shuffling_turn    before the first turn, and one turn
 --   shuffling_never                   no word is missing
---   shuffling_done                    with one record or none still to place the list is shuffled
-use mathlib.Core.Path.{◌≡◌, refl, sym, ap, ap₂, ◌∙◌}
+--   shuffling_turn                    one turn
+--   shuffling_done                    with no batch left the list is shuffled
+use Rattle.std.specs.Prelude.{Some, None}
+use mathlib.Core.Path.{◌≡◌, sym, ap, ap₂, ◌∙◌}
 use mathlib.Core.Bool.{true}
-use mathlib.Core.List.{List, ◌∷◌}
+use mathlib.Core.List.{List, [], ◌∷◌}
 use Prim.Native.Nat.{ℕ, ◌+◌, ◌-◌, ◌^◌, ◌<◌, ◌≤◌}
 use native.Mathlib.Nat.{lt_of_le_of_lt}
 use native.Mathlib.Omega.{arith}
+use lib.Dec.{lit<}
 use lib.ListN.{length, drop}
 use Rattle.rules.specs.Rolls.{rolls, product, accepted}
-use Rattle.rules.specs.Limits.{max_records}
-use Rattle.rules.specs.Width.{Width}
-use Rattle.arithmetic.specs.Products.{unwrap}
-use Rattle.arithmetic.proofs.Limits.{unwrap_some}
-use Rattle.rules.proofs.Widths.{GoodWidth}
-use Rattle.rules.proofs.Rolls.{length-rolls}
-use Rattle.rules.specs.Run.{find, Run, run_from, run, rolls_of, suffices}
-use Rattle.rolls.specs.Inner.{passes, searched}
-use Rattle.rolls.specs.declared.search.Search.TheVariants.{Hit, Missing}
-use Rattle.rolls.proofs.Searching.{find_batch}
-use Rattle.rules.proofs.Running.{rolled_by}
-use Rattle.rolls.proofs.Stepping.{hit_suffices, hit_rolled, hit_within, never_missing}
+use Rattle.rules.specs.Run.{Found, find, Run, run_from, run, rolls_of, suffices}
 use Rattle.rules.specs.Shuffle.{shuffle_with, countdown, shuffle_plan}
-use Rattle.rules.proofs.ShufflePlans.{GoodSize, size_some, plan_end, plan_step}
-use Rattle.rules.proofs.Rows.{length-countdown}
+use Rattle.rules.specs.Width.{size64}
 use Rattle.rules.proofs.Orders.{length-shuffle, shuffle-append}
+use Rattle.rules.proofs.Rolls.{length-rolls}
+use Rattle.rules.proofs.Rows.{length-countdown}
+use Rattle.rules.proofs.Running.{rolled_by}
+use Rattle.rules.proofs.ShufflePlans.{GoodSize, size_some, plan_step, sizes64}
+use Rattle.arithmetic.proofs.Limits.{unwrap_some}
+use Rattle.rolls.specs.Inner.{searched}
+use Rattle.rolls.specs.Plan.{begins, BatchAt}
+use Rattle.rolls.proofs.Stepping.{hit_suffices, hit_rolled, hit_within, never_missing}
 
 -- ---- one batch
 
-abbrev pub plan_of : Width → ℕ → List (List ℕ)
-plan_of W = shuffle_plan W.size
+-- of n records those before the place at are placed
+module _ (n at : ℕ) (few : n ≤ 16384) (h : at < n - 1) where
+  good : GoodSize size64 (2 ^ 56) (n - at)
+  good = sizes64 (n - at) (omega arith) (omega arith)
 
-module _ (W : Width) (g : GoodWidth W) (m s : ℕ) (h : 1 < m) (k : m ≤ max_records) (e : s ≡ W.size m) where
-  good : GoodSize W.size W.limit m
-  good = g.sizes m h k
+  goes_on : shuffle_plan size64 (n - at) ≡ countdown (size64 (n - at)) (n - at) ∷ shuffle_plan size64 (n - at - size64 (n - at))
+  goes_on = plan_step sizes64 (n - at) (omega arith) (omega arith)
 
-  pub batch_less : (0 < s) × (s < m)
-  batch_less = rw e (size_some good, good.less)
+  size : length (begins (shuffle_plan size64 (n - at))) ≡ size64 (n - at)
+  size = ap (λ (plan : List (List ℕ)). length (begins plan)) goes_on ∙ length-countdown (size64 (n - at)) (n - at)
 
-  pub batch_fits : (0 < product (countdown s m)) × (product (countdown s m) < 2 ^ W.bits)
-  batch_fits = rw e (good.rollable.positive, lt_of_le_of_lt good.rollable.fits g.fits)
+  module _ (end : ℕ) (e : end ≡ at + length (begins (shuffle_plan size64 (n - at)))) where
+    pub down_within : end < n
+    down_within = omega (arith, e, size, good.less)
 
-  pub batch_plan : plan_of W m ≡ countdown s m ∷ plan_of W (m - s)
-  batch_plan = rw e (plan_step g.sizes m h k)
+    pub down_begins : begins (shuffle_plan size64 (n - at)) ≡ countdown (end - at) (n - at)
+    down_begins =
+        let s : size64 (n - at) ≡ end - at = omega (arith, e, size) in
+        ap begins goes_on ∙ ap (λ (k : ℕ). countdown k (n - at)) s
 
-  -- the search for its word, by the product
-  pub batch_find : (b : ℕ) → b ≡ product (countdown s m) → (words : List ℕ) (at : ℕ)
-      → find (passes W.bits (unwrap W.bits b)) words at ≡ find (accepted W.bits (countdown s m)) words at
-  batch_find b f words at =
-      find_batch W.bits (countdown s m) (unwrap W.bits b) (rw length-countdown batch_less.0)
-      (unwrap_some W.bits b (λ n. omega (arith, f, batch_fits.0)) ∙ f) words at
+  module _ (s : ℕ) (e : s ≡ size64 (n - at)) where
+    pub size_less : (0 < s) × (s < n - at)
+    size_less = rw e (size_some good, good.less)
+
+    product_word : (0 < product (countdown s (n - at))) × (product (countdown s (n - at)) < 2 ^ 64)
+    product_word = rw e (good.rollable.positive, lt_of_le_of_lt good.rollable.fits (lit< tt))
+
+    pub product_less : product (countdown s (n - at)) < 2 ^ 64
+    product_less = product_word.1
+
+    pub down_cut : (p : ℕ) → p ≡ product (countdown s (n - at))
+        → BatchAt (λ i. shuffle_plan size64 (n - i)) (n - 1) at (record { end = at + s; product = record { wrapped = p } })
+    down_cut p f =
+        let d : begins (shuffle_plan size64 (n - at)) ≡ countdown s (n - at) = ap begins goes_on ∙ ap (λ (k : ℕ). countdown k (n - at)) (sym e) in
+        let on : n - at - size64 (n - at) ≡ n - (at + s) = omega (arith, e) in
+        record {
+          rest = goes_on ∙ ap₂ (λ (bs : List ℕ) (k : ℕ). bs ∷ shuffle_plan size64 k) (sym (ap begins goes_on)) on;
+          end = omega (arith, e, size);
+          some = omega (arith, e, size, size_less.0);
+          within = omega (arith, size_less.1);
+          product = unwrap_some 64 p (λ z. omega (arith, f, product_word.0)) ∙ f ∙ ap product (sym d);
+        }
 
 -- ---- the records placed
 
--- with m records still to place the rest of the run suffices, and its rolls bring the list as it stands to what the whole shuffle gives
-abbrev pub Shuffling : Width → List ℕ → ℕ → List ℕ → List ℕ → ℕ → ℕ → Type 0
-Shuffling W words start xs₀ xs to m =
-    (to ≤ length words) × (m ≤ length xs₀) × (length xs ≡ length xs₀)
-    × ((batch : ℕ) × (suffices (run_from W.bits (plan_of W m) words to batch) ≡ true)
-    × (shuffle_with m (rolled_by W.bits (plan_of W m) (run_from W.bits (plan_of W m) words to batch)) xs
-    ≡ shuffle_with (length xs₀) (rolled_by W.bits (plan_of W (length xs₀)) (run W.bits (plan_of W (length xs₀)) words start)) xs₀))
+-- with m records still to place the rest of the run starts at `to` and suffices, and its rolls bring the list as it stands to what the
+-- whole shuffle gives
+abbrev pub Shuffling : ℕ → List (List ℕ) → List ℕ → ℕ → List (List ℕ) → List ℕ → List ℕ → ℕ → ℕ → Type 0
+Shuffling L plan words start left xs₀ xs to m =
+    (to ≤ length words) × (length xs ≡ length xs₀)
+    × ((batch : ℕ) × (suffices (run_from L left words to batch) ≡ true)
+    × (shuffle_with m (rolled_by L left (run_from L left words to batch)) xs
+    ≡ shuffle_with (length xs₀) (rolled_by L plan (run L plan words start)) xs₀))
 
-pub shuffling_none : (W : Width) (words : List ℕ) (start : ℕ) (xs : List ℕ) → start ≤ length words → suffices (run W.bits (plan_of W (length xs)) words start) ≡ true
-    → Shuffling W words start xs xs start (length xs)
-shuffling_none W words start xs h e = (h, omega arith, refl, (0, e, refl))
+module _ (L : ℕ) (plan : List (List ℕ)) (words : List ℕ) (start : ℕ) (left : List (List ℕ)) (xs₀ xs : List ℕ) (to m : ℕ) (v : Shuffling L plan words start left xs₀ xs to m) where
+  module _ (bs : List ℕ) (rest : List (List ℕ)) (e : left ≡ bs ∷ rest) (f : Found) (same : f ≡ find (accepted L bs) (drop to words) to) where
+    enough : suffices (run_from L (bs ∷ rest) words to v.2.0) ≡ true
+    enough = rw e at v.2.1
 
-module _ (W : Width) (g : GoodWidth W) (words : List ℕ) (start : ℕ) (xs₀ : List ℕ) (top : length xs₀ ≤ max_records) (xs : List ℕ) (to m : ℕ) (v : Shuffling W words start xs₀ xs to m) where
-  module _ (h : 1 < m) (s : ℕ) (e : s ≡ W.size m) (b : ℕ) (f : b ≡ product (countdown s m)) where
-    small : m ≤ max_records
-    small = omega (arith, v.1, top)
+    pub shuffling_never : searched to f ≡ None → ⊥
+    shuffling_never s = never_missing L bs rest words to v.2.0 f same s enough
 
-    found_by : find (passes W.bits (unwrap W.bits b)) (drop to words) to ≡ find (accepted W.bits (countdown s m)) (drop to words) to
-    found_by = batch_find W g m s h small e b f (drop to words) to
-
-    enough : suffices (run_from W.bits (countdown s m ∷ plan_of W (m - s)) words to v.3.0) ≡ true
-    enough = rw (batch_plan W g m s h small e) at v.3.1
-
-    pub shuffling_never : searched to (find (passes W.bits (unwrap W.bits b)) (drop to words) to) ≡ Missing → ⊥
-    shuffling_never q = never_missing W.bits (countdown s m) (plan_of W (m - s)) words to v.3.0 _ found_by q enough
-
-    pub shuffling_turn : (w place more : ℕ) → searched to (find (passes W.bits (unwrap W.bits b)) (drop to words) to) ≡ Hit w place more
-        → (ys : List ℕ) → ys ≡ shuffle_with m (rolls W.bits (countdown s m) w) xs
-        → Shuffling W words start xs₀ ys (place + 1) (m - s)
-    shuffling_turn w place more q ys d =
-        let rs : List ℕ = rolls W.bits (countdown s m) w in
-        let on : Run = run_from W.bits (plan_of W (m - s)) words (place + 1) (v.3.0 + 1) in
-        let len : length rs ≡ s = length-rolls W.bits (countdown s m) w ∙ length-countdown s m in (
-          omega (arith, hit_within W.bits (countdown s m) (plan_of W (m - s)) words to v.3.0 _ found_by w place more q),
-          omega (arith, v.1),
-          ap length d ∙ length-shuffle m rs xs ∙ v.2,
+    pub shuffling_turn : (w place more : ℕ) → searched to f ≡ Some (record { word = w; place = place; rejected = more })
+        → (ys : List ℕ) → ys ≡ shuffle_with m (rolls L bs w) xs → (k : ℕ) → k ≡ m - length bs
+        → Shuffling L plan words start rest xs₀ ys (place + 1) k
+    shuffling_turn w place more s ys d k g =
+        let rs : List ℕ = rolls L bs w in
+        let on : Run = run_from L rest words (place + 1) (v.2.0 + 1) in
+        let len : k ≡ m - length rs = g ∙ ap (λ (n : ℕ). m - n) (sym (length-rolls L bs w)) in (
+          omega (arith, hit_within L bs rest words to v.2.0 f same w place more s),
+          ap length d ∙ length-shuffle m rs xs ∙ v.1,
           (
-            v.3.0 + 1,
-            hit_suffices W.bits (countdown s m) (plan_of W (m - s)) words to v.3.0 _ found_by w place more q enough,
-            ap₂ (λ (k : ℕ) (l : List ℕ). shuffle_with (m - k) (rolled_by W.bits (plan_of W (m - s)) on) l) (sym len) d
-                ∙ sym (shuffle-append m rs (rolled_by W.bits (plan_of W (m - s)) on) xs)
-                ∙ ap (λ (l : List ℕ). shuffle_with m l xs) (sym (hit_rolled W.bits (countdown s m) (plan_of W (m - s)) words to v.3.0 _ found_by w place more q enough))
-                ∙ (rw (batch_plan W g m s h small e) at v.3.2),
+            v.2.0 + 1,
+            hit_suffices L bs rest words to v.2.0 f same w place more s enough,
+            ap₂ (λ (n : ℕ) (l : List ℕ). shuffle_with n (rolled_by L rest on) l) len d
+                ∙ sym (shuffle-append m rs (rolled_by L rest on) xs)
+                ∙ ap (λ (l : List ℕ). shuffle_with m l xs) (sym (hit_rolled L bs rest words to v.2.0 f same w place more s enough))
+                ∙ (rw e at v.2.2),
           ),
         )
 
-  pub shuffling_done : m ≤ 1
-      → xs ≡ shuffle_with (length xs₀) (rolled_by W.bits (plan_of W (length xs₀)) (run W.bits (plan_of W (length xs₀)) words start)) xs₀
+  pub shuffling_done : left ≡ [] → xs ≡ shuffle_with (length xs₀) (rolled_by L plan (run L plan words start)) xs₀
   unfolding run_from rolls_of shuffle_with
-  shuffling_done h =
-      sym (ap (λ (plan : List (List ℕ)). shuffle_with m (rolled_by W.bits plan (run_from W.bits plan words to v.3.0)) xs) (plan_end g.sizes m h)) ∙ v.3.2
+  shuffling_done e = rw e at v.2.2

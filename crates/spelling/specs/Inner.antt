@@ -1,12 +1,17 @@
--- What the inner functions ask and answer.
+-- What the functions of a page ask and answer.
 --
---   Room out at bs              there is room for the bytes at that place
---   Written out at bs last to   last is the list out with the bytes at that place, and to is the place after them
+--   Room page n            there is room for n bytes more
+--   Written page bs last   last is the page with the bytes at its place: the list is the same one, all else in it is as it was, and the
+--                          place is the one after them, which is within the list
 use Rattle.std.specs.Prelude.{◌≡◌, List, ℕ, ◌+◌, ◌≤◌, length}
 use Rattle.rules.specs.Put.{put}
+use Rattle.spelling.specs.declared.page.Page.{Page}
 
-abbrev pub Room : List ℕ → ℕ → List ℕ → Type 0
-Room out at bs = at + length bs ≤ length out
+abbrev pub Room : Page → ℕ → Type 0
+Room page n = page.at + n ≤ length page.bytes.now
 
-abbrev pub Written : List ℕ → ℕ → List ℕ → List ℕ → ℕ → Type 0
-Written out at bs last to = (to ≡ at + length bs) × (last ≡ put out at bs)
+pub record Written (page : Page) (bs : List ℕ) (last : Page) : Type 0 where
+  pub same_list : last.bytes.ghost_name ≡ page.bytes.ghost_name
+  pub bytes : last.bytes.now ≡ put page.bytes.now page.at bs
+  pub place : last.at ≡ page.at + length bs
+  pub within : last.at ≤ length page.bytes.now

@@ -1,6 +1,6 @@
-// Texts and numbers in decimal, put at a place of a list of bytes.
+// Texts and numbers in decimal, put on a page one behind the other.
 //
 // Contracts cite specs/: Decimal and Inner. Pinned has sentences that a number in decimal meets.
 #![tactic(auto)]
 
-pub mod put;
+pub mod page;

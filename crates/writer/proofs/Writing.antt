@@ -1,51 +1,34 @@
--- Writing a sheet, refusal by refusal, and its bytes part by part. Assumes nothing.
+-- Writing a sheet: it is written where nothing is refused, and its bytes part by part. Assumes nothing.
 --
---   write_long     a sheet that would pass 65,535 bytes is refused by 2
---   write_size     else one to which number 3 applies is refused by 3
---   write_room     else one that is longer than the lent list is refused by 6
---   write_done     and else it is written
---   refused_write  what the caller sees of a refusal
---   done_write     what the caller sees of a sheet that was written
+--   write_done    a sheet that is not too long, to which number 3 does not apply and for which there is room is written
+--   done_write    what the caller sees of a sheet that was written
 use mathlib.Core.Path.{◌≡◌, refl, sym, ap, ◌∙◌}
-use mathlib.Core.Bool.{true, false}
+use mathlib.Core.Bool.{false}
 use mathlib.Core.List.{List, [], ◌++◌, append_assoc}
-use Prim.Native.Nat.{ℕ, ◌+◌, ◌*◌, ◌<◌, ◌≤◌}
+use Prim.Native.Nat.{ℕ, ◌+◌, ◌*◌, ◌≤◌}
 use native.Mathlib.Omega.{arith}
 use lib.Dec.{ltb}
 use lib.ListN.{length, drop, length-append}
-use borrow.Author.Tests.{lt-ltb, le-ltb}
+use borrow.Author.Tests.{le-ltb}
+use Rattle.std.specs.Prelude.{Ok}
 use Rattle.rules.specs.Put.{put}
 use Rattle.rules.proofs.Writing.{put-put}
-use Rattle.answers.specs.Outcome.{refused, done, left}
-use Rattle.answers.proofs.Deciding.{decide_here, decide_past, decide_none}
+use Rattle.answers.specs.Outcome.{done, left}
+use Rattle.answers.proofs.Deciding.{decide_past, decide_none}
 use Rattle.areas.specs.Area.{area}
 use Rattle.areas.proofs.Laying.{length-area}
 use Rattle.sheet.specs.Sheet.{is_wrong_size}
 use Rattle.writer.specs.WriteSheet.{length_of, header, written, write_sheet, shown_written, seen_write}
-use Rattle.writer.specs.declared.write.Written.{Written}
+use Rattle.writer.specs.Results.{written_of}
 use Rattle.writer.proofs.Laid.{length-written}
 
 module _ (ws xs : List ℕ) (k w : ℕ) where
-  -- ---- the refusals
+  -- ---- no refusal
 
-  module _ (room : ℕ) where
-    pub write_long : ltb 65535 (length_of ws xs) ≡ true → write_sheet ws xs k w room ≡ refused 2 0
-    unfolding write_sheet
-    write_long e = decide_here _ _ _ e
-
-    module _ (long : ltb 65535 (length_of ws xs) ≡ false) where
-      pub write_size : is_wrong_size (length xs) k w ≡ true → write_sheet ws xs k w room ≡ refused 3 0
-      unfolding write_sheet
-      write_size e = decide_past _ _ _ long ∙ decide_here _ _ _ e
-
-      module _ (size : is_wrong_size (length xs) k w ≡ false) where
-        pub write_room : room < length_of ws xs → write_sheet ws xs k w room ≡ refused 6 0
-        unfolding write_sheet
-        write_room l = decide_past _ _ _ long ∙ decide_past _ _ _ size ∙ decide_here _ _ _ (lt-ltb room (length_of ws xs) l)
-
-        pub write_done : length_of ws xs ≤ room → write_sheet ws xs k w room ≡ done (written ws xs k w) []
-        unfolding write_sheet
-        write_done l = decide_past _ _ _ long ∙ decide_past _ _ _ size ∙ decide_past _ _ _ (le-ltb room (length_of ws xs) l) ∙ decide_none _
+  pub write_done : (room : ℕ) → ltb 65535 (length_of ws xs) ≡ false → is_wrong_size (length xs) k w ≡ false → length_of ws xs ≤ room
+      → write_sheet ws xs k w room ≡ done (written ws xs k w) []
+  unfolding write_sheet
+  write_done room long size l = decide_past _ _ _ long ∙ decide_past _ _ _ size ∙ decide_past _ _ _ (le-ltb room (length_of ws xs) l) ∙ decide_none _
 
   -- ---- the sheet, part by part
 
@@ -64,17 +47,11 @@ module _ (ws xs : List ℕ) (k w : ℕ) where
 
   -- ---- what the caller sees
 
-  module _ (lent : List ℕ) (d : Written) where
-    pub refused_write : (n : ℕ) → write_sheet ws xs k w (length lent) ≡ refused n 0 → d ≡ shown_written (refused n 0)
-        → (d ≡ (seen_write ws xs k w lent).0) × (lent ≡ (seen_write ws xs k w lent).1)
-    refused_write n e f = (f ∙ ap shown_written (sym e), ap (left lent) (sym e))
-
-    -- the six numbers, the words and the records as the code puts them, the records from a place that it knows
-    pub done_write : write_sheet ws xs k w (length lent) ≡ done (written ws xs k w) [] → length_of ws xs ≤ length lent
-        → d ≡ record { no = 0; next = 0; rejected = 0; length = length_of ws xs } → (one two three : List ℕ)
-        → one ≡ put lent 0 (area 4 h) → two ≡ put one 24 (area 8 ws) → three ≡ put two (24 + 8 * length ws) (area 4 xs)
-        → (d ≡ (seen_write ws xs k w lent).0) × (three ≡ (seen_write ws xs k w lent).1)
-    done_write e room f one two three first second third = (
-      f ∙ ap (λ (n : ℕ). record { no = 0; next = 0; rejected = 0; length = n }) (sym (length-written ws xs k w)) ∙ ap shown_written (sym e),
-      third ∙ ap (λ (l : List ℕ). put l (24 + 8 * length ws) (area 4 xs)) (second ∙ ap (λ (l : List ℕ). put l 24 (area 8 ws)) first) ∙ parts lent room ∙ ap (left lent) (sym e),
-    )
+  -- the six numbers, the words and the records as the code puts them, the records from a place that it knows
+  pub done_write : (lent : List ℕ) → write_sheet ws xs k w (length lent) ≡ done (written ws xs k w) [] → length_of ws xs ≤ length lent
+      → (one two three : List ℕ) → one ≡ put lent 0 (area 4 h) → two ≡ put one 24 (area 8 ws) → three ≡ put two (24 + 8 * length ws) (area 4 xs)
+      → (written_of (Ok (length_of ws xs)) ≡ (seen_write ws xs k w lent).0) × (three ≡ (seen_write ws xs k w lent).1)
+  done_write lent e room one two three first second third = (
+    ap (λ (n : ℕ). written_of (Ok n)) (sym (length-written ws xs k w)) ∙ ap shown_written (sym e),
+    third ∙ ap (λ (l : List ℕ). put l (24 + 8 * length ws) (area 4 xs)) (second ∙ ap (λ (l : List ℕ). put l 24 (area 8 ws)) first) ∙ parts lent room ∙ ap (left lent) (sym e),
+  )

@@ -1,2 +1,3 @@
+pub mod Results
 pub mod WriteSheet
 pub mod Pinned

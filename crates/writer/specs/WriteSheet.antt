@@ -12,7 +12,7 @@ use Rattle.std.specs.Prelude.{List, [], ◌∷◌, ◌++◌, ℕ, ◌+◌, ◌*�
 use Rattle.answers.specs.Outcome.{Outcome, refused, done, Refusal, no, decide, left}
 use Rattle.areas.specs.Area.{area}
 use Rattle.sheet.specs.Sheet.{is_wrong_size}
-use Rattle.writer.specs.declared.write.Written.{Written}
+use Rattle.writer.specs.declared.written.Written.{Written}
 
 abbrev pub length_of : List ℕ → List ℕ → ℕ
 length_of ws xs = 24 + 8 * length ws + 4 * length xs

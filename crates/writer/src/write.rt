@@ -1,26 +1,17 @@
 // Writing a draw sheet: the six numbers, the words at 24, the records straight after.
 ghost use Rattle.std.specs.Prelude.{◌≡◌, ◌+◌, ◌*◌, ◌≤◌, ltb, length};
 ghost use Rattle.rules.specs.Put.{put};
-ghost use Rattle.answers.specs.Outcome.{refused};
 ghost use Rattle.areas.specs.Area.{area};
-ghost use Rattle.writer.specs.WriteSheet.{header, shown_written, seen_write};
+ghost use Rattle.writer.specs.Results.{six, written_of};
+ghost use Rattle.writer.specs.WriteSheet.{seen_write};
 
-use answers::refusal;
-use areas::write::{write_number, write_records, write_words};
+use answers::refusal::Refusal;
+use areas::number::Number;
+use areas::write::write_numbers;
 use sheet::read::{
-    HEADER, K, MAX_SHEET, RECORD_COUNT, RECORDS_AT, SHEET_RECORDS, SHEET_WORDS, W, WORD_COUNT,
-    WORDS_AT, wrong_size,
+    HEADER, Header, K, MAX_SHEET, RECORD_COUNT, RECORDS_AT, SHEET_RECORDS, SHEET_WORDS, W,
+    WORD_COUNT, WORDS_AT, check_size,
 };
-
-// The answer of a sheet's writer: how many bytes the sheet has. It uses no word: next and rejected are 0.
-#[repr(C)]
-#[derive(Drop)]
-pub struct Written {
-    pub no: u64,
-    pub next: usize,
-    pub rejected: usize,
-    pub length: usize,
-}
 
 // Whether a sheet of so many words and records would pass 65,535 bytes. More than a sheet can hold of either is told before anything is
 // multiplied, so that no product and no sum wraps.
@@ -36,29 +27,17 @@ fn too_long(words: usize, records: usize) -> bool
     MAX_SHEET < HEADER + 8 * words + 4 * records
 }
 
-// Puts the six numbers in front of the sheet: the words stand behind them, the records behind the words.
-fn write_header(sheet: &mut [u8], words: u32, records: u32, records_at: u32, k: u32, w: u32)
-    requires { (24 ≤ length sheet.old) × (records_at ≡ 24 + 8 * words) }
-    ensures { sheet.new ≡ put sheet.old 0 (area 4 (header words records k w)) }
+// Puts the six numbers in front of the sheet.
+fn write_header(sheet: &mut [u8], header: Header)
+    requires { 24 ≤ length sheet.old }
+    ensures { sheet.new ≡ put sheet.old 0 (area 4 (six header)) }
 {
-    write_number(sheet, WORD_COUNT, words);
-    write_number(sheet, WORDS_AT, HEADER as u32);
-    write_number(sheet, RECORD_COUNT, records);
-    write_number(sheet, RECORDS_AT, records_at);
-    write_number(sheet, K, k);
-    write_number(sheet, W, w);
-}
-
-// A refusal: its number, and zeros elsewhere.
-fn refused_written(number: u64) -> Written
-    ensures { result ≡ shown_written (refused number 0) }
-{
-    Written {
-        no: number,
-        next: 0,
-        rejected: 0,
-        length: 0,
-    }
+    u32::write(sheet, WORD_COUNT, header.words);
+    u32::write(sheet, WORDS_AT, header.words_at);
+    u32::write(sheet, RECORD_COUNT, header.records);
+    u32::write(sheet, RECORDS_AT, header.records_at);
+    u32::write(sheet, K, header.k);
+    u32::write(sheet, W, header.w);
 }
 
 // A draw sheet, written: the six numbers, the words at 24, the records straight after; bytes past the sheet stay.
@@ -69,37 +48,37 @@ fn refused_written(number: u64) -> Written
 // records 101, 205, 309 with k = 1 and w = 1 give the 52 bytes of the header 2, 24, 3, 40, 1, 1 and these words and records. While the
 // rules stand the same input has the same answer.
 #[tactic(auto, unfolding(crate::specs::WriteSheet::write_sheet, answers::specs::Outcome::decide))]
-pub fn write_sheet(words: &[u64], records: &[u32], k: usize, w: usize, sheet: &mut [u8]) -> Written
-    ensures answer { result ≡ (seen_write words.now records.now k w sheet.old).0 }
+pub fn write_sheet(
+    words: &[u64],
+    records: &[u32],
+    k: usize,
+    w: usize,
+    sheet: &mut [u8],
+) -> Result<usize, Refusal>
+    ensures answer { written_of result ≡ (seen_write words.now records.now k w sheet.old).0 }
     ensures sheet { sheet.new ≡ (seen_write words.now records.now k w sheet.old).1 }
 {
     let m = words.len();
     let n = records.len();
     if too_long(m, n) {
-        return refused_written(refusal::COUNT);
+        return Err(Refusal::Count);
     }
-    if wrong_size(n, k, w) {
-        return refused_written(refusal::SAMPLE);
-    }
+    check_size(n, k, w)?;
     let records_at = HEADER + 8 * m;
     let length = records_at + 4 * n;
     if sheet.len() < length {
-        return refused_written(refusal::ROOM);
+        return Err(Refusal::Room);
     }
-    write_header(
-        sheet,
-        m as u32,
-        n as u32,
-        records_at as u32,
-        k as u32,
-        w as u32,
-    );
-    write_words(sheet, HEADER, words);
-    write_records(sheet, records_at, records);
-    Written {
-        no: 0,
-        next: 0,
-        rejected: 0,
-        length,
-    }
+    let header = Header {
+        words: m as u32,
+        words_at: HEADER as u32,
+        records: n as u32,
+        records_at: records_at as u32,
+        k: k as u32,
+        w: w as u32,
+    };
+    write_header(sheet, header);
+    write_numbers(sheet, HEADER, words);
+    write_numbers(sheet, records_at, records);
+    Ok(length)
 }

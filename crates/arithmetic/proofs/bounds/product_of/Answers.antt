@@ -1,29 +1,23 @@
--- `arithmetic::bounds::product_of` meets its contract. The loop's invariant: the product of the bounds passed is held against 2^64. The
--- measure is what is left of the list. Assumes nothing.
-use Rattle.std.proofs.Common.{ℕ, List, get_or, take, sym, refl, ap, ◌∙◌, take_all, rules}
-use Rattle.rules.specs.Rolls.{product}
-use Rattle.arithmetic.specs.Products.{against, grown}
-use Rattle.arithmetic.specs.declared.bounds.Product.{Product}
-use Rattle.rules.proofs.Products.{zero_nowhere, product-more}
-use Rattle.arithmetic.proofs.Limits.{grown-against}
+-- `arithmetic::bounds::product_of` meets its contract. The loop's invariant: the product of the bounds passed is at most 2^64, and is held.
+-- Assumes nothing.
+use Rattle.std.proofs.Common.{◌∙◌, rules}
+use Rattle.rules.proofs.Products.{zero_nowhere}
+use Rattle.arithmetic.proofs.Limits.{grown_none, grown_turn, grown_past, grown_whole}
 use Rattle.arithmetic.proofs.bounds.product_of.Goals as goal
 
-pub loop-i-init : goal.loop-i-init
-unfolding product against
-loop-i-init c = (search rules, refl)
+pub loop-b-init : goal.loop-b-init
+loop-b-init c = (search rules, grown_none c.args.bounds.now)
 
-pub grow-held-requires : goal.grow-held-requires
-grow-held-requires c = let turn = c in zero_nowhere _ _ turn.requires (search rules)
+pub times-requires : goal.times-requires
+times-requires c = zero_nowhere c.args.bounds.now c.loop-b.b-index c.requires (search rules)
 
-pub loop-i-preserved : goal.loop-i-preserved
-loop-i-preserved c = let turn = c in
-    let bs = turn.args.bounds.now in (
-      search rules,
-      c.grow-held.ensures ∙ ap (λ (x : Product). grown x (get_or bs turn.loop-i.i 0)) turn.loop-i.invariant.1
-          ∙ grown-against (product (take turn.loop-i.i bs)) (get_or bs turn.loop-i.i 0) (zero_nowhere bs turn.loop-i.i turn.requires (search rules))
-          ∙ ap against (sym (product-more bs turn.loop-i.i (search rules))),
-    )
+pub returns-in_err-product : goal.returns-in_err-product
+returns-in_err-product c = let i = c.loop-b.b-index in
+    c.from_residual.ensures ∙ grown_past c.args.bounds.now c.requires i (search rules) c.loop-b.product c.loop-b.invariant.1 c.times.result c.times.ensures c.in_err-product.was
+
+pub loop-b-preserved : goal.loop-b-preserved
+loop-b-preserved c = let i = c.loop-b.b-index in
+    (search rules, grown_turn c.args.bounds.now c.requires i (search rules) c.loop-b.product c.loop-b.invariant.1 c.times.result c.times.ensures _ c.in_ok-product.was)
 
 pub returns : goal.returns
-returns c = let bs = c.args.bounds.now in
-    c.loop-i.invariant.1 ∙ ap (λ (l : List ℕ). against (product l)) (take_all c.loop-i.i bs (search rules))
+returns c = let bs = c.args.bounds.now in grown_whole bs c.loop-b.b-index (search rules) c.loop-b.product c.loop-b.invariant.1

@@ -1,33 +1,35 @@
 -- `reasons::fate::fate_of` meets its contract, return by return (Firsts). Assumes nothing.
-use mathlib.Core.Path.{◌∙◌, sym}
+use mathlib.Core.Path.{refl, ◌∙◌, sym}
 use borrow.Author.Rules.{rules}
-use Rattle.reasons.proofs.Firsts.{held_stayed, held_taken, fate_first, fate_rolled, fate_passed}
+use Rattle.reasons.proofs.Firsts.{some_step, no_step, held_stayed, held_taken, fate_first, fate_rolled, fate_passed}
 use Rattle.reasons.specs.declared.fate.Fate.TheVariants.{Stayed, RolledIn}
 use Rattle.reasons.proofs.fate.fate_of.Goals as goal
 
-pub returns-then-step-rolls : goal.returns-then-step-rolls
-returns-then-step-rolls c =
+pub returns-in-Some : goal.returns-in-Some
+returns-in-Some c =
     let a = c.args in
-    sym (fate_first a.k a.rolls.now a.place (search rules) ∙ held_taken Stayed a.k a.rolls.now a.place 0 _ c.first_roll-step.ensures (search rules))
+    let step = some_step a.place a.rolls.now 0 c.in-Some.step (sym c.first_roll.ensures ∙ c.in-Some.is) in
+    sym (fate_first a.k a.rolls.now a.place (search rules) ∙ held_taken Stayed a.k a.rolls.now a.place 0 _ step.0 step.1)
 
-pub returns-then-place-k : goal.returns-then-place-k
-returns-then-place-k c =
+pub returns-in-None : goal.returns-in-None
+returns-in-None c =
     let a = c.args in
-    sym (fate_first a.k a.rolls.now a.place (search rules) ∙ held_stayed Stayed a.k a.rolls.now a.place 0 _ c.first_roll-step.ensures (search rules))
+    let none = no_step a.place a.rolls.now 0 (sym c.first_roll.ensures ∙ c.in-None.is) in
+    sym (fate_first a.k a.rolls.now a.place (search rules) ∙ held_stayed Stayed a.k a.rolls.now a.place 0 _ refl none)
 
 pub returns-then-k-roll : goal.returns-then-k-roll
 returns-then-k-roll c =
     let a = c.args in
     sym (fate_passed a.k a.rolls.now a.place (search rules) (search rules))
 
-pub returns-then-step-rolls-2 : goal.returns-then-step-rolls-2
-returns-then-step-rolls-2 c =
+pub returns-in-Some-first_roll : goal.returns-in-Some-first_roll
+returns-in-Some-first_roll c =
     let a = c.args in
-    sym (fate_rolled a.k a.rolls.now a.place (search rules) (search rules)
-    ∙ held_taken RolledIn a.k a.rolls.now _ _ _ c.first_roll-step-2.ensures (search rules))
+    let step = some_step _ a.rolls.now _ c.in-Some-first_roll.step (sym c.first_roll-2.ensures ∙ c.in-Some-first_roll.is) in
+    sym (fate_rolled a.k a.rolls.now a.place (search rules) (search rules) ∙ held_taken RolledIn a.k a.rolls.now _ _ _ step.0 step.1)
 
-pub returns : goal.returns
-returns c =
+pub returns-in-None-first_roll : goal.returns-in-None-first_roll
+returns-in-None-first_roll c =
     let a = c.args in
-    sym (fate_rolled a.k a.rolls.now a.place (search rules) (search rules)
-    ∙ held_stayed RolledIn a.k a.rolls.now _ _ _ c.first_roll-step-2.ensures (search rules))
+    let none = no_step _ a.rolls.now _ (sym c.first_roll-2.ensures ∙ c.in-None-first_roll.is) in
+    sym (fate_rolled a.k a.rolls.now a.place (search rules) (search rules) ∙ held_stayed RolledIn a.k a.rolls.now _ _ _ refl none)

@@ -9,11 +9,6 @@ use Rattle.reasons.proofs.fate.final_slot.Goals.{then-at-roll, else-at-roll+then
 pub loop-i-init : goal.loop-i-init
 loop-i-init c = follow_none c.args.k c.args.rolls.now c.args.slot c.requires.0 (range_true _ _ c.requires.1)
 
-pub overflow_sub-last : goal.overflow_sub-last
-overflow_sub-last c =
-    let a = c.args in
-    omega (arith, follow_range a.k a.rolls.now a.slot c.loop-i.at c.loop-i.i c.loop-i.invariant c.loop-i-test.true)
-
 pub overflow_sub-last-in-loop-i : goal.overflow_sub-last-in-loop-i
 overflow_sub-last-in-loop-i c =
     let a = c.args in

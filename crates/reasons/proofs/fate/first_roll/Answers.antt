@@ -1,24 +1,22 @@
--- `reasons::fate::first_roll` meets its contract: a roll that is not the slot is passed, and else the first is found here (Firsts). Assumes nothing.
-use mathlib.Core.Path.{◌∙◌, sym}
-use Prim.Native.Nat.{◌<◌}
-use lib.ListN.{length}
-use borrow.Author.Rules.{rules}
-use Rattle.reasons.proofs.Firsts.{first_here, first_past, first_end}
+-- `reasons::fate::first_roll` meets its contract: the first roll that is the slot, from the start on, is the definition's (Firsts). Assumes nothing.
+use Rattle.std.proofs.Common.{◌≡◌, ◌≢◌, ◌∙◌, rules, tests, arith, drop, ◌-◌, length, length-drop}
+use Rattle.std.proofs.lemmas.Iterator.{YieldsList-from_slice, IsFirst-from_position}
+use lib.Seq.{take_all}
+use Rattle.reasons.proofs.Firsts.{step_at, step_nowhere}
 use Rattle.reasons.proofs.fate.first_roll.Goals as goal
 
-pub loop-step-preserved : goal.loop-step-preserved
-loop-step-preserved c =
+pub returns-in_err-later : goal.returns-in_err-later
+returns-in_err-later c =
     let a = c.args in
-    let here : c.loop-step.step < length a.rolls.now = search rules in
-    (search rules, sym (first_past a.slot a.rolls.now c.loop-step.step here c.if-rolls-step.false) ∙ c.loop-step.invariant.1)
+    let first = IsFirst-from_position c.position.new.self _ c.position.result (λ x. x ≡ a.slot) (λ x. x ≢ a.slot) c.position.ensures.ran
+    (YieldsList-from_slice _ c.iter.ensures.rest) (λ x q k. search (rules, tests)) (λ x q k. search (rules, tests)) in
+    let whole = take_all (length a.rolls.now - a.from) (drop a.from a.rolls.now) (rw length-drop (omega arith)) in
+    c.from_residual.ensures ∙ step_nowhere a.slot a.rolls.now a.from c.requires _ whole c.position.result first c.in_err-later.was
 
-pub returns-after-loop-step : goal.returns-after-loop-step
-returns-after-loop-step c =
+pub returns : goal.returns
+returns c =
     let a = c.args in
-    sym (first_end a.slot a.rolls.now c.loop-step.step (search rules)) ∙ c.loop-step.invariant.1
-
-pub returns-then-rolls-step : goal.returns-then-rolls-step
-returns-then-rolls-step c =
-    let a = c.args in
-    let here : c.loop-step.step < length a.rolls.now = search rules in
-    sym (first_here a.slot a.rolls.now c.loop-step.step here c.if-rolls-step.true) ∙ c.loop-step.invariant.1
+    let first = IsFirst-from_position c.position.new.self _ c.position.result (λ x. x ≡ a.slot) (λ x. x ≢ a.slot) c.position.ensures.ran
+    (YieldsList-from_slice _ c.iter.ensures.rest) (λ x q k. search (rules, tests)) (λ x q k. search (rules, tests)) in
+    let whole = take_all (length a.rolls.now - a.from) (drop a.from a.rolls.now) (rw length-drop (omega arith)) in
+    step_at a.slot a.rolls.now a.from c.requires _ whole c.position.result first c.in_ok-later.later c.in_ok-later.was

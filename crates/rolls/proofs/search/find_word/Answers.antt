@@ -13,19 +13,19 @@ use borrow.Author.Rules.{rules}
 use Rattle.rolls.proofs.search.find_word.Goals as goal
 
 pub loop-at-preserved : goal.loop-at-preserved
-loop-at-preserved c = let turn = c in
-    let args = turn.args in
-    let here : turn.loop-at.at < length args.words.now = search rules in (
+loop-at-preserved c =
+    let list = c.args.words.list.now in
+    let here : c.loop-at.at < length list = search rules in (
       search rules,
       search rules,
       search rules,
-      turn.loop-at.invariant.3,
-      sym (find_miss (passes 64 (unwrap 64 args.b)) args.words.now turn.loop-at.at here
-          (passes_tested 64 args.b _ _ _ _ turn.loop-at.invariant.3 c.low.ensures (lt-leb c.threshold_of-t.result c.low.result (omega arith)))) ∙ turn.loop-at.invariant.4,
+      c.loop-at.invariant.3,
+      sym (find_miss (passes 64 (unwrap 64 c.args.product.wrapped)) list c.loop-at.at here
+          (passes_tested 64 c.args.product.wrapped _ _ _ _ c.loop-at.invariant.3 c.low.ensures (lt-leb c.threshold-t.result c.low.result (omega arith)))) ∙ c.loop-at.invariant.4,
     )
 
-pub returns-then-at-words : goal.returns-then-at-words
-returns-then-at-words c = let turn = c in
-    let args = turn.args in
-    let none : length args.words.now ≤ turn.loop-at.at = search rules in
-    sym (ap (searched args.start) (sym turn.loop-at.invariant.4 ∙ find_end (passes 64 (unwrap 64 args.b)) args.words.now turn.loop-at.at none))
+pub returns-then-at-list : goal.returns-then-at-list
+returns-then-at-list c =
+    let list = c.args.words.list.now in
+    let none : length list ≤ c.loop-at.at = search rules in
+    sym (ap (searched c.args.words.next) (sym c.loop-at.invariant.4 ∙ find_end (passes 64 (unwrap 64 c.args.product.wrapped)) list c.loop-at.at none))

@@ -10,8 +10,9 @@ use Rattle.rolls.specs.Inner.{passes}
 use Rattle.rolls.proofs.search.find_word.Given as goal
 
 abbrev pub invariant-loop-at : goal.invariant-loop-at
-invariant-loop-at l = (l.start ≤ l.at) × (l.at ≤ length l.words) × (l.rejected ≡ l.at - l.start) × (l.t ≡ threshold 64 (unwrap 64 l.b))
-    × (find (passes 64 (unwrap 64 l.b)) (drop l.at l.words) l.at ≡ find (passes 64 (unwrap 64 l.b)) (drop l.start l.words) l.start)
+invariant-loop-at l = let start = l.words.next in
+    (start ≤ l.at) × (l.at ≤ length l.list) × (l.rejected ≡ l.at - start) × (l.t ≡ threshold 64 (unwrap 64 l.b))
+    × (find (passes 64 (unwrap 64 l.b)) (drop l.at l.list) l.at ≡ find (passes 64 (unwrap 64 l.b)) (drop start l.list) start)
 
 abbrev pub decreases-loop-at : goal.decreases-loop-at
-decreases-loop-at l = length l.words - l.at
+decreases-loop-at l = length l.list - l.at

@@ -1,12 +1,11 @@
 -- `runs::behind::run_behind` meets its contract: for 2^64 each value is its own word; else the first word by a division rounded up, and
 -- the last by the number of words less one. Assumes nothing.
-use Rattle.std.proofs.Common.{◌≡◌, ◌≢◌, ℕ, ◌-◌, ◌^◌, ◌<◌, sym, ap, ◌∙◌, arith}
+use Rattle.std.proofs.Common.{◌≡◌, ◌≢◌, ℕ, ◌+◌, ◌-◌, ◌%◌, ◌^◌, ◌<◌, sym, ap, ◌∙◌, arith, rules}
 use Rattle.rules.specs.Rolls.{threshold}
 use Rattle.arithmetic.specs.Products.{unwrap}
-use Rattle.arithmetic.proofs.Limits.{unwrap_whole, unwrap_some}
+use Rattle.arithmetic.proofs.Limits.{unwrap_some}
 use Rattle.runs.specs.Inner.{run_behind_rolls}
-use Rattle.runs.proofs.Radix.{first_fits, run-last, run_found}
-use Rattle.runs.proofs.WayBack.{run_whole}
+use Rattle.runs.proofs.Radix.{run-last, run_found}
 use Rattle.runs.proofs.behind.run_behind.Goals as goal
 
 -- for a product below 2^64: the value is below it, and the threshold is its own
@@ -20,24 +19,15 @@ module _ (b : ℕ) (some : b ≢ 0) where
   least : (t : ℕ) → t ≡ threshold 64 (unwrap 64 b) → t ≡ threshold 64 b
   least t e = e ∙ ap (threshold 64) same
 
-pub returns-then-b-eq0 : goal.returns-then-b-eq0
-returns-then-b-eq0 c = run_whole c.args.a _ (unwrap_whole 64 c.args.b c.if-b-eq0.true)
-
-pub divide_up-first-requires : goal.divide_up-first-requires
-divide_up-first-requires c = let a = c.args in
-    let some = c.if-b-eq0.false in
-    let l = below a.b some _ c.requires in
-    (l, first_fits _ _ _ l c.ranges.b.fits (least a.b some _ c.threshold_of.ensures))
-
 pub overflow_add-result : goal.overflow_add-result
 overflow_add-result c = let a = c.args in
     let some = c.if-b-eq0.false in
-    let r : c.wrapping_sub_u64.result ≡ 2 ^ 64 - a.b = omega arith in
-    record { fits = run-last _ _ _ (below a.b some _ c.requires) c.ranges.b.fits (least a.b some _ c.threshold_of.ensures) _ c.divide_up-first.ensures _ r }
+    let r : (0 + (2 ^ 64 - a.product.wrapped)) % 2 ^ 64 ≡ 2 ^ 64 - a.product.wrapped = omega arith in
+    record { fits = run-last _ _ _ (below a.product.wrapped some _ c.requires) (search rules) (least a.product.wrapped some _ c.threshold.ensures) _ c.divide_up-first.ensures _ r }
 
 pub returns : goal.returns
 returns c = let a = c.args in
     let some = c.if-b-eq0.false in
-    let r : c.wrapping_sub_u64.result ≡ 2 ^ 64 - a.b = omega arith in
-    run_found _ _ _ (below a.b some _ c.requires) c.ranges.b.fits (least a.b some _ c.threshold_of.ensures) _ c.divide_up-first.ensures _ r
-    ∙ ap (λ (n : ℕ). run_behind_rolls 64 n a.a) (sym (same a.b some))
+    let r : (0 + (2 ^ 64 - a.product.wrapped)) % 2 ^ 64 ≡ 2 ^ 64 - a.product.wrapped = omega arith in
+    run_found _ _ _ (below a.product.wrapped some _ c.requires) (search rules) (least a.product.wrapped some _ c.threshold.ensures) _ c.divide_up-first.ensures _ r
+    ∙ ap (λ (n : ℕ). run_behind_rolls 64 n a.a) (sym (same a.product.wrapped some))

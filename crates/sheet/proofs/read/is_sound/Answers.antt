@@ -7,7 +7,7 @@ use Rattle.sheet.proofs.read.is_sound.Goals as goal
 
 pub returns : goal.returns
 returns c =
-    let at = c.read_number-words_at.result in
-    let from = c.read_number-records_at.result in
-    sound_rest c.args.sheet.now at (at + 8 * c.read_number.result) from (from + 4 * c.read_number-2.result) _ c.share_byte.ensures
+    let at = c.read-words_at.result in
+    let from = c.read-records_at.result in
+    sound_rest c.args.sheet.now at (at + 8 * c.read.result) from (from + 4 * c.read-2.result) _ c.share_byte.ensures
     (search rules) (search rules) (search rules) (search rules) (search rules)

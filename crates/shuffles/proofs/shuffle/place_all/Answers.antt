@@ -1,55 +1,43 @@
--- `shuffles::shuffle::place_all` meets its contract. The loop's invariant: with m records still to place the rest of the run suffices, and
--- its rolls bring the list as it stands to what the whole shuffle gives (Shuffling); so no word is missing. The measure is m.
--- Assumes nothing.
-use mathlib.Core.Path.{◌∙◌, sym}
-use Prim.Native.Nat.{◌≤◌}
+-- `shuffles::shuffle::place_all` meets its contract. The loop's invariant: with the records behind the place `at` still to place the rest of
+-- the run suffices, and its rolls bring the list as it stands to what the whole shuffle gives (Shuffling); so no word is missing. The measure
+-- is the bounds that are left. Assumes nothing.
+use mathlib.Core.Path.{refl, ◌∙◌, sym, ap}
+use mathlib.Core.List.{List}
+use Prim.Native.Nat.{ℕ, ◌-◌}
 use native.Mathlib.Omega.{arith}
+use lib.ListN.{length}
 use borrow.Author.Rules.{rules}
-use Rattle.rules.specs.Width.{w64}
-use Rattle.rules.proofs.Widths.{good64}
-use Rattle.shuffles.proofs.Shuffling.{shuffling_none, shuffling_turn, shuffling_never, shuffling_done, batch_less, batch_fits}
+use Rattle.rules.specs.Rolls.{rolls}
+use Rattle.rules.specs.Shuffle.{shuffle_with, countdown}
+use Rattle.rules.proofs.ShufflePlans.{plan_end, sizes64}
+use Rattle.rolls.proofs.Cutting.{found_cut}
+use Rattle.rolls.proofs.Searching.{hit_before}
+use Rattle.shuffles.proofs.Shuffling.{down_begins, shuffling_never, shuffling_turn, shuffling_done}
 use Rattle.shuffles.proofs.shuffle.place_all.Goals as goal
 
-pub loop-m-init : goal.loop-m-init
-loop-m-init c = shuffling_none w64 c.args.words.now c.args.start c.args.records.now c.requires.0 c.requires.2
-
-pub product_down-b-requires : goal.product_down-b-requires
-product_down-b-requires c =
-    let few : c.loop-m.m ≤ 16384 = omega arith in (
-      omega (arith, batch_less w64 good64 _ _ c.loop-m-test.true few c.batch_size-s.ensures),
-      (batch_fits w64 good64 _ _ c.loop-m-test.true few c.batch_size-s.ensures).1,
+pub loop-at-preserved : goal.loop-at-preserved
+loop-at-preserved c =
+    let a = c.args in
+    let at = c.loop-at.at in
+    let v = c.cut-cut.ensures in
+    let end = c.cut-cut.result.end in
+    let xs = c.loop-at.records in
+    let m = length a.records.now - at in
+    let bs = down_begins a.plan.records at a.plan.few (search rules) end v.end ∙ ap (λ (n : ℕ). countdown (end - at) (n - at)) c.requires.all in (
+      v.within,
+      shuffling_turn 64 _ _ _ _ _ _ _ _ c.loop-at.invariant.1 _ _ v.rest _ refl _ _ _
+          (sym (found_cut _ _ _ _ v a.words.list.now _ c.loop-at.next _ _ c.find_word.ensures c.at.ensures.list c.at.ensures.next) ∙ c.in-Some.is)
+          _ (c.place_batch.ensures ∙ ap (λ (l : List ℕ). shuffle_with m (rolls 64 l c.in-Some.hit.word) xs) (sym bs)) _ (omega (arith, v.end)),
     )
 
-pub place_batch-requires : goal.place_batch-requires
-place_batch-requires c =
-    (omega (arith, batch_less w64 good64 _ _ c.loop-m-test.true (omega arith) c.batch_size-s.ensures), omega arith)
-
-pub loop-m-preserved : goal.loop-m-preserved
-loop-m-preserved c =
-    let a = c.args in
-    shuffling_turn w64 good64 a.words.now a.start a.records.now c.requires.1 _ _ _ c.loop-m.invariant c.loop-m-test.true _ c.batch_size-s.ensures _
-    c.product_down-b.ensures _ _ _ (sym c.find_word.ensures ∙ c.in-Hit.is) _ c.place_batch.ensures
-
 pub overflow_add-next : goal.overflow_add-next
-overflow_add-next c =
-    let a = c.args in
-    let turn = shuffling_turn w64 good64 a.words.now a.start a.records.now c.requires.1 _ _ _ c.loop-m.invariant c.loop-m-test.true _ c.batch_size-s.ensures _
-    c.product_down-b.ensures _ _ _ (sym c.find_word.ensures ∙ c.in-Hit.is) _ c.place_batch.ensures in
-    omega (arith, turn.0)
+overflow_add-next c = let b = hit_before _ c.args.words.list.now _ _ (sym (found_cut _ _ _ _ c.cut-cut.ensures c.args.words.list.now _ c.loop-at.next _ _ c.find_word.ensures c.at.ensures.list c.at.ensures.next) ∙ c.in-Some.is) in
+    record { fits = omega (arith, b, c.args.words.counted) }
 
-pub overflow_sub-m : goal.overflow_sub-m
-overflow_sub-m c = omega (arith, batch_less w64 good64 _ _ c.loop-m-test.true (omega arith) c.batch_size-s.ensures)
-
-pub loop-m-smaller : goal.loop-m-smaller
-loop-m-smaller c = omega (arith, batch_less w64 good64 _ _ c.loop-m-test.true (omega arith) c.batch_size-s.ensures)
-
-pub returns-in-Missing : goal.returns-in-Missing
-returns-in-Missing c =
-    let a = c.args in
-    absurd (shuffling_never w64 good64 a.words.now a.start a.records.now c.requires.1 _ _ _ c.loop-m.invariant c.loop-m-test.true _ c.batch_size-s.ensures _
-    c.product_down-b.ensures (sym c.find_word.ensures ∙ c.in-Missing.is))
+pub unreachable-requires : goal.unreachable-requires
+unreachable-requires c =
+    let v = c.cut-cut.ensures in
+    shuffling_never 64 _ _ _ _ _ _ _ _ c.loop-at.invariant.1 _ _ v.rest _ refl (sym (found_cut _ _ _ _ v c.args.words.list.now _ c.loop-at.next _ _ c.find_word.ensures c.at.ensures.list c.at.ensures.next) ∙ c.in_default.is)
 
 pub returns : goal.returns
-returns c =
-    let a = c.args in
-    shuffling_done w64 good64 a.words.now a.start a.records.now c.requires.1 _ _ _ c.loop-m.invariant (search rules)
+returns c = shuffling_done 64 _ _ _ _ _ _ _ _ c.loop-at.invariant.1 (plan_end sizes64 _ (omega (arith, c.count.ensures, c.loop-at-test.false)))

@@ -1,58 +1,58 @@
 -- `shuffles::shuffle::shuffle_records` meets its contract, refusal by refusal (OneShuffle). Assumes nothing.
-use mathlib.Core.Path.{◌∙◌, sym}
+use mathlib.Core.Path.{◌≡◌, ◌∙◌, ap}
+use Prim.Native.Nat.{◌≤◌}
+use native.Mathlib.Omega.{arith}
 use lib.ListN.{length}
+use Rattle.std.specs.Prelude.{Err}
 use Rattle.rules.specs.Width.{size64, w64}
-use Rattle.rules.specs.Run.{run}
-use Rattle.answers.proofs.Deciding.{in_count, above_count, supplied_enough, refused-seen, done-seen}
-use Rattle.rules.specs.Shuffle.{shuffle_plan}
-use Rattle.rules.proofs.Orders.{length-shuffle}
-use Rattle.shuffles.proofs.OneShuffle.{shuffle-count, shuffle_start, shuffle-short, shuffle-done}
-use Rattle.rules.proofs.Writing.{whole_list}
+use Rattle.rules.specs.Run.{run, trace, rolls_of}
+use Rattle.rules.specs.Shuffle.{shuffle_with, shuffle_plan}
+use Rattle.answers.specs.Results.{answer_of}
+use Rattle.answers.proofs.Deciding.{above_count, refused-seen}
+use Rattle.shuffles.proofs.OneShuffle.{shuffle-count, shuffle_start, supplied_for, short_seen, shuffled_seen}
 use borrow.Author.Rules.{rules}
 use Rattle.shuffles.proofs.shuffle.shuffle_records.Goals as goal
 
-pub returns-then-records-gt-MAX_RECORDS : goal.returns-then-records-gt-MAX_RECORDS
-returns-then-records-gt-MAX_RECORDS c =
+pub returns-in_err-plan : goal.returns-in_err-plan
+returns-in_err-plan c =
     let a = c.args in
     let xs = a.records.now in
-    let seen = refused-seen _ 2 0 _ _ _ (shuffle-count w64 a.words.now a.start xs (above_count 0 16384 (length xs) c.if-records-gt-MAX_RECORDS.true)) c.refused_answer.ensures in
+    let why = c.in_err-plan.ensures in
+    let e : c.from_residual.result ≡ Err c.in_err-plan.field-0.0 = search rules in
+    let seen = refused-seen _ 2 0 _ _ _ (shuffle-count w64 a.words.now a.start xs (above_count 0 16384 (length xs) why.1)) (ap (answer_of a.start) (e ∙ ap Err why.0)) in
     record { answer = seen.0; records = seen.1 }
 
-pub returns-then-words-start : goal.returns-then-words-start
-returns-then-words-start c =
+pub returns-in_err-words : goal.returns-in_err-words
+returns-in_err-words c =
     let a = c.args in
     let xs = a.records.now in
-    let seen =
-    refused-seen _ 9 0 _ _ _ (shuffle_start w64 a.words.now a.start xs (in_count 0 16384 (length xs) (search rules) (search rules)) c.if-words-start.true)
-    c.refused_answer-then-words-start.ensures in
+    let why = c.in_err-words.ensures in
+    let few : length xs ≤ 16384 = omega (arith, c.in_ok-plan.ensures, c.in_ok-plan.plan.few) in
+    let e : c.from_residual-in_err-words.result ≡ Err c.in_err-words.field-0.0 = search rules in
+    let seen = refused-seen _ 9 0 _ _ _ (shuffle_start w64 a.words.now a.start xs few why.1) (ap (answer_of a.start) (e ∙ ap Err why.0)) in
     record { answer = seen.0; records = seen.1 }
 
-pub place_all-requires : goal.place_all-requires
-place_all-requires c =
-    let a = c.args in (
-      c.if-words-start.false,
-      c.if-records-gt-MAX_RECORDS.false,
-      (supplied_enough a.start (run 64 (shuffle_plan size64 (length a.records.now)) a.words.now a.start) _ _ (sym c.supply_shuffle.ensures ∙ c.in-Enough.is)).enough,
-    )
-
-pub returns-in-Enough : goal.returns-in-Enough
-returns-in-Enough c =
+pub returns-in_err-used : goal.returns-in_err-used
+returns-in_err-used c =
     let a = c.args in
     let xs = a.records.now in
-    let s = sym c.supply_shuffle.ensures ∙ c.in-Enough.is in
-    let seen =
-    done-seen _ _ a.start (run 64 (shuffle_plan size64 (length xs)) a.words.now a.start) _ _ xs _ _
-    (shuffle-done w64 a.words.now a.start xs (in_count 0 16384 (length xs) (search rules) (search rules)) c.if-words-start.false _ _ s) s c.done_answer.ensures
-    (c.place_all.ensures ∙ whole_list _ xs (length-shuffle (length xs) _ xs)) in
-    record { answer = seen.0; records = seen.1 }
+    let from = c.in_ok-words.ensures in
+    let few : length xs ≤ 16384 = omega (arith, c.in_ok-plan.ensures, c.in_ok-plan.plan.few) in
+    let within : a.start ≤ length a.words.now = omega (arith, ap length from.0, from.1, c.in_ok-words.words.within) in
+    let dry = supplied_for w64 a.words.now a.start xs c.supply.result _ _ _ c.supply.ensures from.0 from.1 c.in_ok-plan.ensures in
+    let e : c.from_residual-in_err-used.result ≡ Err c.in_err-used.field-0.0 = search rules in
+    let seen = short_seen w64 a.words.now a.start xs few within _ dry _ c.in_err-used.was in
+    record { answer = ap (answer_of a.start) e ∙ seen.0; records = seen.1 }
 
-pub returns-in-Short : goal.returns-in-Short
-returns-in-Short c =
+pub returns : goal.returns
+returns c =
     let a = c.args in
     let xs = a.records.now in
-    let seen =
-    refused-seen _ 10 _ _ _ _
-    (shuffle-short w64 a.words.now a.start xs (in_count 0 16384 (length xs) (search rules) (search rules)) c.if-words-start.false _
-    (sym c.supply_shuffle.ensures ∙ c.in-Short.is))
-    c.refused_answer-in-Short.ensures in
+    let from = c.in_ok-words.ensures in
+    let few : length xs ≤ 16384 = omega (arith, c.in_ok-plan.ensures, c.in_ok-plan.plan.few) in
+    let within : a.start ≤ length a.words.now = omega (arith, ap length from.0, from.1, c.in_ok-words.words.within) in
+    let dry = supplied_for w64 a.words.now a.start xs c.supply.result _ _ _ c.supply.ensures from.0 from.1 c.in_ok-plan.ensures in
+    let plan = shuffle_plan size64 (length xs) in
+    let placed = c.place_all.ensures ∙ (λ i. shuffle_with (length xs) (rolls_of 64 plan (trace (run 64 plan (from.0 i) (from.1 i)))) xs) in
+    let seen = shuffled_seen w64 a.words.now a.start xs few within _ dry _ c.in_ok-used.was _ placed in
     record { answer = seen.0; records = seen.1 }

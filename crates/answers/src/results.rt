@@ -1,0 +1,23 @@
+// What an operation gives where it refuses nothing.
+
+// Of the words: the place after the last one used, and how many were rejected. Both are 0 where an operation uses none.
+#[derive(Clone, Copy, Debug, PartialEq, Eq)]
+pub struct Used {
+    pub next: usize,
+    pub rejected: usize,
+}
+
+// One batch: sixteen rolls with their count, places past the count 0.
+#[derive(Clone, Copy, Debug, PartialEq, Eq)]
+pub struct Rolled {
+    pub rolls: [u64; 16],
+    pub count: usize,
+    pub used: Used,
+}
+
+// The words behind rolls: the first and the last of their run.
+#[derive(Clone, Copy, Debug, PartialEq, Eq)]
+pub struct WordRun {
+    pub first: u64,
+    pub last: u64,
+}

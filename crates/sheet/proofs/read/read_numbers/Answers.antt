@@ -1,5 +1,0 @@
--- `sheet::read::read_numbers` meets its contract. Field by field, the numbers are as they were read. Assumes nothing.
-use Rattle.sheet.proofs.read.read_numbers.Goals as goal
-
-pub returns : goal.returns
-returns c = cc
