@@ -7,12 +7,13 @@ pub struct Used {
     pub rejected: usize,
 }
 
-// One batch: sixteen rolls with their count, places past the count 0.
+// One batch: sixteen rolls with their count, places past the count 0. The rolls stand last: in a Result what stands first lies where a
+// refusal would, and the rolls there were copied twice more.
 #[derive(Clone, Copy, Debug, PartialEq, Eq)]
 pub struct Rolled {
-    pub rolls: [u64; 16],
-    pub count: usize,
     pub used: Used,
+    pub count: usize,
+    pub rolls: [u64; 16],
 }
 
 // The words behind rolls: the first and the last of their run.

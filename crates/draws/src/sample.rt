@@ -21,7 +21,10 @@ fn take_first(records: &[u32], slots: &mut [u32])
     requires { length slots.old ≤ length records.now }
     ensures { slots.new ≡ take (length slots.old) records.now }
 {
-    slots.copy_from_slice(&records[..slots.len()]);
+    // by index: with copy_from_slice the archive for C needs memmove from outside
+    for i in 0..slots.len() {
+        slots[i] = records[i];
+    }
 }
 
 // For each record from place k on, where there are k slots, with its roll j: if j is below k, slot j gets the record.
