@@ -3,7 +3,8 @@
 --   against_fits, against_large                   a product is held where it is at most 2^64
 --   held_fits, held_large                         and what that says of it
 --   beyond_words, within_word                     whether a number is at most a limit that is a word, by its halves
---   half_fits, whole_fits, halves_large                    whether a number is at most 2^64, by its halves
+--   half_fits, whole_fits, halves_large           whether a number is at most 2^64, by its halves
+--   is_below, is_whole, is_above                  and what that says of the number
 --   unwrap_whole, unwrap_some, unwrap_wrapped     the product that a word stands for, where products up to 2^L wrap
 --   zero_any                                      whether some bound is 0
 --   Grown, grown_none, grown_turn,                the loop that finds the product of bounds
@@ -72,8 +73,17 @@ module _ (n high low : ℕ) (h : high ≡ n / 2 ^ 64) (l : low ≡ n % 2 ^ 64) w
   pub whole_fits : high ≡ 1 → low ≡ 0 → Some (record { wrapped = low }) ≡ against n
   whole_fits e f = ap Some low_wraps ∙ sym (against_fits n (omega arith))
 
+  pub is_below : high ≡ 0 → (n < 2 ^ 64) × (low ≡ n) × (Some (record { wrapped = low }) ≡ against n)
+  is_below e = (omega arith, omega arith, half_fits e)
+
+  pub is_whole : high ≡ 1 → low ≡ 0 → (n ≡ 2 ^ 64) × (Some (record { wrapped = low }) ≡ against n)
+  is_whole e f = (omega arith, whole_fits e f)
+
   pub halves_large : (high ≡ 0 → ⊥) → (high ≡ 1 → low ≡ 0 → ⊥) → None ≡ against n
   halves_large k m = sym (against_large n (lt_of_le-ne (omega arith) (λ e. m (omega arith) (omega arith))))
+
+  pub is_above : (high ≡ 0 → ⊥) → (high ≡ 1 → low ≡ 0 → ⊥) → (2 ^ 64 < n) × (None ≡ against n)
+  is_above k m = (lt_of_le-ne (omega arith) (λ e. m (omega arith) (omega arith)), halves_large k m)
 
 -- ---- products that wrap
 

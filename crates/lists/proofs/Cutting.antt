@@ -3,7 +3,7 @@
 --   part bs at end                        the bounds from a place up to another
 --   Begun, begun                          how the first batch of a list stands in it
 --   Cutting, cut-first, cut-turn          the loop that finds the end of a batch
---   cut_list_ends, cut-passes             the batch ends where the list does, or its product passes the limit
+--   cut_list_ends, cut_full, cut-passes   the batch ends where the list does, or it has sixteen bounds, or its product passes the limit
 --   cut_found, cut_ended                  what is answered then; and of the last batch of the list
 --   cut_filled                            the batch ends where it has sixteen bounds
 use mathlib.Core.Path.{◌≡◌, refl, sym, ap, ap₂, ◌∙◌, subst}
@@ -149,6 +149,9 @@ module _ (limit : ℕ) (bs : List ℕ) (at p end : ℕ) (v : Cutting limit bs at
 
   pub cut-passes : end < length bs → leb (p * get_or bs end 0) limit ≡ false → part bs at end ≡ begins (cut limit (drop at bs))
   cut-passes h e = no_more h (joined _ false refl e ∙ and-false (ltb (length (part bs at end)) 16))
+
+  pub cut_full : end < length bs → 16 ≤ end - at → part bs at end ≡ begins (cut limit (drop at bs))
+  cut_full h k = no_more h (joined false _ (le-ltb (length (part bs at end)) 16 (rw len k)) refl)
 
   cut_end : part bs at end ≡ begins (cut limit (drop at bs))
       → (end ≡ at + length (begins (cut limit (drop at bs)))) × (p ≡ product (begins (cut limit (drop at bs))))

@@ -1,10 +1,11 @@
 -- A list of bounds as a plan: the batches from each of its places on. Assumes nothing.
 --
---   batch_within     the batch from a place on lies within the list
---   unfolded_part    the rolls of its bounds, as they stand in the list
---   list_cut         the cut that the code makes is the plan's
---   length_list      a list has as many rolls as bounds
---   none_behind      behind the last bound no batch is left
+--   batch_within, batch_part   the batch from a place on lies within the list, from its place on
+--   batch_rest                 the plan from a place on is its batch and the plan behind it
+--   unfolded_part              the rolls of its bounds, as they stand in the list
+--   list_cut                   the cut that the code makes is the plan's
+--   length_list                a list has as many rolls as bounds
+--   none_behind                behind the last bound no batch is left
 use mathlib.Core.Path.{◌≡◌, sym, ap, ◌∙◌}
 use mathlib.Core.Bool.{true, false}
 use mathlib.Core.List.{List, [], ◌∷◌, ◌++◌}
@@ -40,14 +41,14 @@ module _ (bs : List ℕ) (at : ℕ) (h : at < length bs) where
   pub batch_within : at + length (begins (batches bs at)) ≤ length bs
   batch_within = omega (arith, rw length-drop at starts.within)
 
-  batch_rest : batches bs at ≡ begins (batches bs at) ∷ batches bs (at + length (begins (batches bs at)))
+  pub batch_rest : batches bs at ≡ begins (batches bs at) ∷ batches bs (at + length (begins (batches bs at)))
   batch_rest = starts.rest ∙ ap (λ (l : List ℕ). begins (batches bs at) ∷ cut (2 ^ 56) l) (drop-drop (length (begins (batches bs at))) at bs)
 
   module _ (end : ℕ) (e : end ≡ at + length (begins (batches bs at))) where
     batch_size : end - at ≡ length (begins (batches bs at))
     batch_size = omega (arith, e)
 
-    batch_part : part bs at end ≡ begins (batches bs at)
+    pub batch_part : part bs at end ≡ begins (batches bs at)
     batch_part = rw batch_size (sym starts.front)
 
     -- the rolls of the bounds from the place up to its end, in front of what stood there

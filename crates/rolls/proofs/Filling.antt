@@ -1,10 +1,10 @@
 -- Writing the rolls of a plan, batch after batch, to the front of a lent list, where the words suffice. Over every width and plan. Assumes
 -- nothing.
 --
---   Filling               the rolls of the batches before those that are left are written
---   fill_none, fill_cut   before the first turn, and one turn
---   fill_never            no word is missing
---   fill_all              the rolls of the whole plan are written
+--   Filling                         the rolls of the batches before those that are left are written
+--   fill_none, fill_hit, fill_cut   before the first turn; one turn; and one turn whose end a cut tells
+--   fill_never                      no word is missing
+--   fill_done, fill_all             the rolls of the whole plan are written
 use Rattle.std.specs.Prelude.{Some, None}
 use mathlib.Core.Path.{◌≡◌, refl, sym, ap, ◌∙◌, subst}
 use mathlib.Core.Bool.{true}
@@ -40,7 +40,7 @@ module _ (L : ℕ) (plan : List (List ℕ)) (words : List ℕ) (start : ℕ) (le
     pub fill_never : searched to f ≡ None → ⊥
     fill_never s = never_missing L bs rest words to v.3.0 f same s enough
 
-    fill_hit : (w place m : ℕ) → searched to f ≡ Some (record { word = w; place = place; rejected = m }) → at + length bs ≤ length out₀
+    pub fill_hit : (w place m : ℕ) → searched to f ≡ Some (record { word = w; place = place; rejected = m }) → at + length bs ≤ length out₀
         → (last : List ℕ) → last ≡ rolls L bs w ++ drop (length bs) (take (length out - at) (drop at out))
         → Filling L plan words start rest out₀ (put_mid at (length out - at) out last) (place + 1) (at + length bs)
     fill_hit w place m s room last l =
@@ -71,7 +71,7 @@ module _ (L : ℕ) (plan : List (List ℕ)) (words : List ℕ) (start : ℕ) (le
         let P : ℕ → Type 0 = λ n. Filling L plan words start rest out₀ (put_mid at (length out - at) out last) (place + 1) n in
         subst P (sym e) (fill_hit w place m s (omega (arith, e, room)) last (rw size at l))
 
-  fill_done : left ≡ [] → out ≡ rolled_by L plan (run L plan words start) ++ drop at out₀
+  pub fill_done : left ≡ [] → out ≡ rolled_by L plan (run L plan words start) ++ drop at out₀
   unfolding run_from rolls_of
   fill_done e =
       let front : take at out ≡ rolled_by L plan (run L plan words start) = sym (append-nil (take at out)) ∙ (rw e at v.3.2) in

@@ -2,8 +2,10 @@
 --
 --   decimal_one      a number below 10 is one digit
 --   decimal-more     a number from 10 on is its tenth and one digit more
+--   decimal_longer   so that it has one digit more than its tenth
+--   digit-count      how many digits a number has at most
 --   same_decimal     the number in decimal that the library writes is this one
---   digit_count      how many digits a number has at most
+--   digit_count      how many digits a number of 64 bits has at most
 --   as_long          the list is as long as it was
 --   joined           bytes, and others behind them, are written as one
 --   none_written     nothing is written
@@ -11,7 +13,8 @@
 use mathlib.Core.Path.{◌≡◌, refl, sym, ap, ◌∙◌}
 use mathlib.Core.Bool.{Bool, true, false}
 use mathlib.Core.List.{List, [], ◌∷◌, ◌++◌}
-use Prim.Native.Nat.{ℕ, zero, suc, ◌/◌, ◌%◌, ◌^◌, ◌<◌, ◌≤◌}
+use Prim.Native.Nat.{ℕ, zero, suc, ◌+◌, ◌/◌, ◌%◌, ◌^◌, ◌<◌, ◌≤◌}
+use native.Mathlib.Nat.{pow-suc}
 use native.Mathlib.Omega.{arith}
 use lib.Dec.{ltb}
 use lib.ListN.{length, length-append}
@@ -55,6 +58,19 @@ decimal-more zero h = absurd (omega arith)
 decimal-more (suc m) h =
     digits_more m (suc m) h
     ∙ ap (λ (ds : List ℕ). ds ++ digit (suc m % 10) ∷ []) (digits_same m (suc m / 10) (suc m / 10) (omega arith) (omega arith))
+
+pub decimal_longer : (n : ℕ) → 10 ≤ n → length (decimal n) ≡ length (decimal (n / 10)) + 1
+decimal_longer n h = ap length (decimal-more n h) ∙ length-append (decimal (n / 10)) _
+
+pub digit-count : (k n : ℕ) → n < 10 ^ suc k → length (decimal n) ≤ suc k
+digit-count zero n h = rw (decimal_one n h) (omega arith)
+digit-count (suc k) n h = go (ltb n 10) refl (digit-count k (n / 10))
+  where
+    go : (b : Bool) → ltb n 10 ≡ b → (n / 10 < 10 ^ suc k → length (decimal (n / 10)) ≤ suc k) → length (decimal n) ≤ suc (suc k)
+    go true e f = rw (decimal_one n (ltb-true _ _ e)) (omega arith)
+    go false e f =
+        let m : n / 10 < 10 ^ suc k = omega (arith, pow-suc 10 (suc k)) in
+        omega (arith, decimal_longer n (ltb-false _ _ e), f m)
 
 -- the library's own definition goes from the last digit to the first
 pub same_decimal : (n : ℕ) → n < 2 ^ 64 → text_of n ≡ decimal n
